@@ -1,0 +1,5 @@
+pub mod Answers
+pub mod Flat
+pub mod Memory
+pub mod Numbers
+pub mod Partition
