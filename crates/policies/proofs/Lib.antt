@@ -1,0 +1,4 @@
+pub mod Naming
+mod Places
+mod Rounds
+pub mod Turning

@@ -1,0 +1,5 @@
+//! Tests of the eviction policies.
+#[cfg(test)]
+mod scenes;
+#[cfg(test)]
+mod sequences;
