@@ -1,0 +1,6 @@
+pub mod Histories
+pub mod Laws
+pub mod Runs
+pub mod Terms
+pub mod Unit
+pub mod Worked
