@@ -1,53 +1,53 @@
 -- Each call keeps a run good, and answers by the laws.
 use mathlib.Core.Path.{_≡_, refl, sym, ap, subst, _∙_}
-use mathlib.Core.Bool.{Bool, true, false, cond, not, _&&_}
+use mathlib.Core.Bool.{Bool, true, false, cond}
 use mathlib.Core.List.{List, [], _∷_}
-use mathlib.Core.Logic.{_⊎_, inl, inr, ⊎-elim}
-use Prim.Native.Nat.{ℕ, _+_, _%_, _≤_, _<_}
+use mathlib.Core.Logic.{⊎-elim}
+use Prim.Native.Nat.{ℕ, _+_, _%_, _<_}
 use native.Mathlib.Omega.{arith}
 use lib.Dec.{eqb, leb}
-use borrow.Author.Tests.{eqb-true, eq-eqb}
-use Rattle.std.proofs.shelf.Tests.{cases-eq, ne-eqb}
+use Rattle.std.proofs.shelf.Tests.{cases-eq, eq-eqb, eqb-true, ne-eqb}
 use Rattle.std.specs.Options.{isSome}
 use Rattle.std.specs.declared.option.Option.{Option}
 use Rattle.std.specs.declared.option.Option.the-variants.{Some, None}
-use Rattle.memory.specs.Memory.{Memory, has-words, stored}
+use Rattle.memory.specs.Memory.{Memory, has-words}
 use Rattle.paging.specs.Formats.{Format, Laws-of-marking}
-use Rattle.paging.specs.Terms.{directory-level, is-table, store}
+use Rattle.paging.specs.Terms.{directory-level, store}
 use Rattle.policies.specs.Orders.{Orders-kept, Rule}
-use Rattle.walk.specs.Marking.{Write, put-all}
-use Rattle.walk.specs.Walk.{Asked, Failure, Outcome, Seen, directory-index, faulted, reached, table-index, walk-from, word-index}
-use Rattle.hits.specs.Hits.{copied-at}
+use Rattle.walk.specs.Marking.{put-all}
+use Rattle.walk.specs.Walk.{Asked, Failure, Outcome, directory-index, faulted, reached, table-index, walk-from, word-index}
 use Rattle.shadow.specs.Slots.{place-at, put-place, shadow-at}
-use Rattle.slot.specs.Slot.{is-directory-of, is-nothing, lags, shadows}
+use Rattle.slot.specs.Slot.{is-directory-of, lags, shadows}
 use Rattle.slot.specs.declared.slots.Place.{Place}
 use Rattle.slot.specs.declared.slots.Place.the-variants.{Empty, Link, Leaf, Piece}
-use Rattle.slot.specs.declared.slots.Shadow.{Shadow}
-use Rattle.slot.specs.declared.slots.Shadow.the-variants.{Nothing, Directory, Table, Split}
+use Rattle.slot.specs.declared.slots.Shadow.the-variants.{Directory, Table}
 use Rattle.shadow.specs.declared.slots.SlotTable.{SlotTable}
 use Rattle.slot.specs.declared.slots.SyncState.the-variants.{Unsynchronised}
 use Rattle.slot.specs.declared.slots.Thing.{Thing}
 use Rattle.slot.specs.declared.slots.Thing.the-variants as thing
-use Rattle.runs.specs.Histories.{Event, History, Never-root, Opening, Sometime, covers, earlier, exit-of, failed, flushed-all, flushed-page, marks-in, memory-at, mode-at, moded, root-at, settled, store-of, stores-in, switched, went}
+use Rattle.runs.specs.Histories.{Event, History, Opening, Sometime, covers, earlier, failed, flushed-all, flushed-page, marks-in, memory-at, mode-at, moded, root-at, settled, store-of, stores-in, switched, went}
 use Rattle.runs.specs.Laws.{Lawful-answer, Lawful-fault, Lawful-reply, Recent, after-access, after-call, asked-now, fault, guest-walk, just}
 use Rattle.runs.specs.Laws as laws-of
-use Rattle.runs.specs.Terms.{Call, Reply, Through, access, close-run, closed, deliver, done, flush, flush-all, flush-page, give-up, no-exit, open-run, page-of, poke, refused, set-mode, switch-root, through, true-exit}
-use Rattle.runs.specs.Unit.{Ended, Hart, Running, State, Taken, access-by, access-ends, asked-in, call-limit, count-in, drop-below, drop-page, hit-answer, hit-by, hit-target, in-run, is-pending, obtain, refuse, resync-all, root-slot, switch-ends, unless-full, unless-pending, walk-ends}
-use Rattle.runs.proofs.Fewer.{Fewer, clash, fewer-empty, fewer-same}
-use Rattle.runs.proofs.Good.{Fit, Good, Past, Then}
+use Rattle.runs.specs.Terms.{Call, access, close-run, deliver, flush, flush-all, flush-page, give-up, open-run, page-of, poke, set-mode, switch-root}
+use Rattle.runs.specs.Unit.{Ended, Hart, Running, State, Taken, access-by, access-ends, asked-in, call-limit, count-in, drop-below, drop-page, hit-answer, hit-target, in-run, is-pending, obtain, refuse, resync-all, root-slot, switch-ends, unless-full, unless-pending, walk-ends}
+use Rattle.runs.proofs.Basics.{clash, elim-eq, untrue}
+use Rattle.runs.proofs.Fewer.{Fewer, fewer-empty, fewer-same}
+use Rattle.runs.proofs.Good.{Fit, Good, Past, Then, refit}
 use Rattle.runs.proofs.HitLaws.{hit-lawful}
 use Rattle.runs.proofs.Hitting.{Hit, by-leaf, by-piece, hit-there, store-flag}
 use Rattle.runs.proofs.Linking.{put-here, put-other, put-sh}
-use Rattle.runs.proofs.Moments.{Small-writes}
+use Rattle.runs.proofs.Memories.{raises-refl}
 use Rattle.runs.proofs.Missing.{hit-alike, miss-good, miss-lawful, root-slot-is, same-page}
+use Rattle.runs.proofs.Moments.{Small-writes}
 use Rattle.runs.proofs.Places.{roomy-put, small-slot, view-put}
 use Rattle.runs.proofs.Resyncs.{Turned, all-calm, each}
+use Rattle.runs.proofs.Shadows.{directory-here, filled, is-directory-at, named-no-directory}
 use Rattle.runs.proofs.Sound.{Linked, Raises, Sound, guards, named, opens, piece-opens}
-use Rattle.runs.proofs.Sounds.{elim-eq, sound-empty, sound-store}
-use Rattle.runs.proofs.Taking.{Got, directory-here, free-any, got, is-directory-at, told-fit}
-use Rattle.runs.proofs.Views.{View, v-put, view}
+use Rattle.runs.proofs.Sounds.{sound-empty, sound-store}
+use Rattle.runs.proofs.Taking.{Got, free-any, got, told-fit}
+use Rattle.runs.proofs.Views.{v-put, view}
 use Rattle.runs.proofs.Walking.{guest-faulted}
-use Rattle.runs.proofs.Windows.{present, raises-refl, word-index-small, table-index-small}
+use Rattle.runs.proofs.Windows.{present, table-index-small, word-index-small}
 
 target-alike : (F : Format) (a b : Asked) (root : ℕ) (t : SlotTable) → a .kind ≡ b .kind → page-of (a .address) ≡ page-of (b .address) → a .privilege ≡ b .privilege → hit-target F b root t ≡ hit-target F a root t
 unfolding hit-target
@@ -102,7 +102,7 @@ module _ (F : Format) (laws : Laws-of-marking F) (R : Rule) (kept-order : Orders
     hit-good a w f q g re me fit hits hit = record {
       root = re ∙ good .root;
       mode = me ∙ good .mode;
-      fit = record { roomy = fit .roomy; many = fit .many; few = fit .few; ordered = fit .ordered; sound = hit-sound a w f hit };
+      fit = refit fit _ (r .table) (fit .roomy) refl (hit-sound a w f hit);
       rooted = subst (λ (n : ℕ). shadow-at (root-slot n (r .table)) (r .table) ≡ Directory n) (sym re) (good .rooted);
       were = λ i k e never. good .were i k e (never .1);
       raised = (raises-refl F m, tt, good .raised);
@@ -138,7 +138,7 @@ module _ (F : Format) (laws : Laws-of-marking F) (R : Rule) (kept-order : Orders
         same-memory = ap (λ xs. put-all (put-all m xs) (stores-in e)) marks ∙ ap (put-all m) stores
 
     fault-ready : (a : Asked) (x : Failure) (b : Asked) → Recent o (b .kind) (page-of (b .address)) (b .privilege) (failed a x ∷ h) → isSome (hit-target F b root (r .table)) ≡ true
-    fault-ready a x b (laws-of.since e z) = clash (let u : _≡_ {A = ℕ} 0 1 = omega arith in u)
+    fault-ready a x b (laws-of.since e z) = absurd (omega arith)
 
     mode-ready : (p : ℕ) (b : Asked) → Recent o (b .kind) (page-of (b .address)) (b .privilege) (moded p ∷ h) → isSome (hit-target F b root (r .table)) ≡ true
     mode-ready p b (laws-of.since e z) = good .ready b z
@@ -151,7 +151,7 @@ module _ (F : Format) (laws : Laws-of-marking F) (R : Rule) (kept-order : Orders
       privileged = privilege;
       window = present o _ (page-of (a .address)) h by-root;
       present = by-root;
-      exit = λ recent. let c : false ≡ true = sym (ap isSome none) ∙ good .ready a recent in clash cc;
+      exit = λ recent. untrue (sym (ap isSome none) ∙ good .ready a recent);
     }
       where
         by-root : guest-walk F a (root-at o h) m ≡ fault x
@@ -187,13 +187,13 @@ module _ (F : Format) (laws : Laws-of-marking F) (R : Rule) (kept-order : Orders
     -- FLUSHES
 
     flush-silent : {A : Type 0} (b : Asked) → Recent o (b .kind) (page-of (b .address)) (b .privilege) (flushed-all ∷ h) → A
-    flush-silent b (laws-of.since e z) = clash (let u : _≡_ {A = ℕ} 0 1 = omega arith in u)
+    flush-silent b (laws-of.since e z) = absurd (omega arith)
 
     page-silent : {A : Type 0} (a : ℕ) (b : Asked) → Recent o (b .kind) (page-of (b .address)) (b .privilege) (flushed-page a ∷ h) → A
-    page-silent a b (laws-of.since e z) = clash (let u : _≡_ {A = ℕ} 0 1 = omega arith in u)
+    page-silent a b (laws-of.since e z) = absurd (omega arith)
 
     switch-silent : {A : Type 0} (f : ℕ) (b : Asked) → Recent o (b .kind) (page-of (b .address)) (b .privilege) (switched f ∷ h) → A
-    switch-silent f b (laws-of.since e z) = clash (let u : _≡_ {A = ℕ} 0 1 = omega arith in u)
+    switch-silent f b (laws-of.since e z) = absurd (omega arith)
 
     -- slots where each shadows what it did have the same directories
     dir-kept : (n : SlotTable) → ((k : ℕ) (x : Thing) → shadows (shadow-at k n) x ≡ shadows (shadow-at k (r .table)) x) → (i f : ℕ)
@@ -240,13 +240,8 @@ module _ (F : Format) (laws : Laws-of-marking F) (R : Rule) (kept-order : Orders
 
     dropped-link : (a w k : ℕ) → place-at I (directory-index a) (r .table) ≡ Link w k → Dropped a (put-place k (table-index a) Empty (r .table))
     dropped-link a w k e = record {
-      fit = record {
-        roomy = roomy-put k (table-index a) Empty (r .table) (good .fit .roomy);
-        many = good .fit .many;
-        few = good .fit .few;
-        ordered = good .fit .ordered;
-        sound = subst (Sound F m) (sym is) (sound-empty F m (view (r .table)) (good .fit .sound) k (table-index a));
-      };
+      fit = refit (good .fit) m (put-place k (table-index a) Empty (r .table)) (roomy-put k (table-index a) Empty (r .table) (good .fit .roomy)) refl
+          (subst (Sound F m) (sym is) (sound-empty F m (view (r .table)) (good .fit .sound) k (table-index a)));
       fewer = subst (Fewer (view (r .table))) (sym is) (fewer-empty k (view (r .table)) (table-index a));
       shadow = λ i. ap (λ v. v .sh i) is ∙ put-sh (view (r .table)) k (table-index a) Empty i;
       gone = λ u n z.
@@ -258,32 +253,16 @@ module _ (F : Format) (laws : Laws-of-marking F) (R : Rule) (kept-order : Orders
         l : Linked F m (view (r .table)) I (directory-index a) w k
         l = good .fit .sound .links I (directory-index a) w k e
 
-        filled : (y : Shadow) (z : Thing) → shadows y z ≡ true → is-nothing y ≡ false
-        filled Nothing (thing.Directory f) u = clash cc
-        filled Nothing (thing.Table f) u = clash cc
-        filled Nothing (thing.Split f) u = clash cc
-        filled (Directory f) z u = refl
-        filled (Table f y) z u = refl
-        filled (Split f) z u = refl
-
         slot : k < 8
         slot = small-slot (r .table) k (good .fit .roomy) (filled (shadow-at k (r .table)) (named F w) (l .names))
 
         is : view (put-place k (table-index a) Empty (r .table)) ≡ v-put k (table-index a) Empty (view (r .table))
         is = view-put k (table-index a) Empty (r .table) (good .fit .roomy) slot (table-index-small a)
 
-        directory-other : (b : Bool) (f g : ℕ) → is-directory-of f (Directory g) ≡ true → shadows (Directory g) (cond b (thing.Table f) (thing.Split f)) ≡ true → ⊥
-        directory-other true f g p q = clash cc
-        directory-other false f g p q = clash cc
-
         apart : I ≡ k → ⊥
         apart c =
             let names : shadows (Directory root) (named F w) ≡ true = subst (λ y. shadows y (named F w) ≡ true) (sym (ap (λ (i : ℕ). shadow-at i (r .table)) c) ∙ good .rooted) (l .names) in
-            no-directory (is-table (F .reads directory-level w)) names
-          where
-            no-directory : (b : Bool) → shadows (Directory root) (cond b (thing.Table (F .reads directory-level w .value)) (thing.Split (F .reads directory-level w .value))) ≡ true → ⊥
-            no-directory true q = clash cc
-            no-directory false q = clash cc
+            named-no-directory (F .reads directory-level w) root names
 
     page-dropped : (a : ℕ) → Dropped a (drop-page root a (r .table))
     unfolding drop-page

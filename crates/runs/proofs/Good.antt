@@ -1,7 +1,7 @@
 -- What holds of a run at every point: between calls the slots are true to guest memory, and what they hold of the past had its
 -- moment.
-use mathlib.Core.Path.{_≡_}
-use mathlib.Core.Bool.{Bool, true, false}
+use mathlib.Core.Path.{_≡_, sym, subst}
+use mathlib.Core.Bool.{Bool, true}
 use mathlib.Core.List.{List}
 use Prim.Native.Nat.{ℕ, _≤_, _<_}
 use Rattle.std.specs.Options.{isSome}
@@ -9,7 +9,6 @@ use Rattle.memory.specs.Memory.{Memory}
 use Rattle.paging.specs.Formats.{Format}
 use Rattle.policies.specs.Orders.{times}
 use Rattle.shadow.specs.Slots.{shadow-at}
-use Rattle.slot.specs.declared.slots.Place.{Place}
 use Rattle.slot.specs.declared.slots.Place.the-variants.{Link, Leaf}
 use Rattle.slot.specs.declared.slots.Shadow.the-variants.{Directory, Table}
 use Rattle.shadow.specs.declared.slots.SlotTable.{SlotTable}
@@ -32,6 +31,16 @@ pub record Fit (F : Format) (m : Memory) (t : SlotTable) (q : List ℕ) : Type 0
   -- each slot in use stands in the order
   pub ordered : (i : ℕ) → i < t .count → 0 < times i q
   pub sound : Sound F m (view t)
+
+-- other slots, as many of them, over another memory
+pub refit : {F : Format} {m : Memory} {t : SlotTable} {q : List ℕ} → Fit F m t q → (k : Memory) (n : SlotTable) → Roomy n → n .count ≡ t .count → Sound F k (view n) → Fit F k n q
+refit fit k n room count sound = record {
+  roomy = room;
+  many = subst (λ (c : ℕ). 2 ≤ c) (sym count) (fit .many);
+  few = subst (λ (c : ℕ). c ≤ 8) (sym count) (fit .few);
+  ordered = λ i l. fit .ordered i (subst (λ (c : ℕ). i < c) count l);
+  sound = sound;
+}
 
 -- at a memory, the copied words w and x are the guest's, but for marks
 abbrev pub Then : Format → ℕ → ℕ → ℕ → ℕ → ℕ → Memory → Type 0

@@ -1,65 +1,31 @@
 -- An access that hits obeys the laws.
-use mathlib.Core.Path.{_≡_, refl, sym, ap, subst, _∙_}
-use mathlib.Core.Bool.{Bool, true, false, cond}
-use mathlib.Core.List.{List, [], _∷_}
-use Prim.Native.Nat.{ℕ, _+_, _<_}
-use native.Mathlib.Omega.{arith}
-use lib.Dec.{eqb}
-use borrow.Author.Tests.{eqb-true, eq-eqb}
+use mathlib.Core.Path.{_≡_, refl, sym, subst, _∙_}
+use mathlib.Core.Bool.{Bool, true}
+use mathlib.Core.List.{[]}
+use Prim.Native.Nat.{ℕ, _+_}
 use Rattle.std.proofs.shelf.Tests.{ne-eqb}
-use Rattle.memory.specs.Answers.{Answer}
 use Rattle.memory.specs.Memory.{Memory, has-words}
 use Rattle.paging.specs.Formats.{Format, Laws-of-marking}
-use Rattle.paging.specs.Terms.{directory-level, is-table, store}
+use Rattle.paging.specs.Terms.{directory-level, store}
 use Rattle.shadow.specs.Slots.{place-at, shadow-at}
 use Rattle.slot.specs.Slot.{shadows}
-use Rattle.slot.specs.declared.slots.Place.{Place}
-use Rattle.slot.specs.declared.slots.Place.the-variants.{Empty, Link, Leaf, Piece}
-use Rattle.slot.specs.declared.slots.Shadow.{Shadow}
-use Rattle.slot.specs.declared.slots.Shadow.the-variants.{Nothing, Directory, Table, Split}
+use Rattle.slot.specs.declared.slots.Place.the-variants.{Link, Leaf, Piece}
+use Rattle.slot.specs.declared.slots.Shadow.the-variants.{Table, Split}
 use Rattle.slot.specs.declared.slots.SyncState.{SyncState}
 use Rattle.slot.specs.declared.slots.SyncState.the-variants.{Protected, Unsynchronised}
-use Rattle.slot.specs.declared.slots.Thing.the-variants as thing
 use Rattle.walk.specs.Walk.{Asked, directory-index, table-index, word-index}
-use Rattle.runs.specs.Histories.{Event, History, Opening, Sometime, at-end, at-opening, between, earlier, marks-in, memory-at, memory-between, mode-at, root-at, stored-since}
-use Rattle.runs.specs.Laws.{Lawful-through, Undisturbed, Unstored, guest-walk, last-written, to, word-at, words-read}
+use Rattle.runs.specs.Histories.{History, Opening, Sometime, memory-at, mode-at}
+use Rattle.runs.specs.Laws.{Lawful-through, Unstored, guest-walk, to, word-at, words-read}
 use Rattle.runs.specs.Terms.{page-of}
-use Rattle.runs.specs.Unit.{Running, hit-answer, root-slot, thing-named, value-of}
-use Rattle.runs.proofs.Fewer.{clash}
+use Rattle.runs.specs.Unit.{Running, hit-answer, root-slot}
 use Rattle.runs.proofs.Good.{Good, Then}
 use Rattle.runs.proofs.Hitting.{Hit, Hits-large, Hits-small, by-leaf, by-piece}
-use Rattle.runs.proofs.Sound.{Backed, Leafed, Linked, Pieced, Up, named}
+use Rattle.runs.proofs.Shadows.{named-split, named-table}
+use Rattle.runs.proofs.Sound.{Backed, Leafed, Up, named}
+use Rattle.runs.proofs.Sounds.{leaf-now, link-now}
 use Rattle.runs.proofs.Views.{view}
 use Rattle.runs.proofs.Walking.{reads-small, walk-large, walk-small}
-use Rattle.runs.proofs.Windows.{has-at, has-put-all, last-is, present, since, sometime-map, table-index-small, word-index-small}
-
--- the same frames have words at every moment
-abbrev pub Same-frames : Opening → Memory → Type 0
-Same-frames o m = (f : ℕ) → has-words (m f) ≡ has-words (o .memory f)
-
-pub sometime-has : (o : Opening) {P Q : Memory → Type 0} {p : ℕ} {h : History} → ((m : Memory) → Same-frames o m → P m → Q m) → Sometime o P p h → Sometime o Q p h
-sometime-has o f (at-opening q) = at-opening (f (o .memory) (λ g. refl) q)
-sometime-has o f (at-end {e} {h} q) = at-end (f (memory-at o (e ∷ h)) (has-at o (e ∷ h)) q)
-sometime-has o f (between {e} {h} k q) = between k (f (memory-between o e h) (λ g. has-put-all (memory-at o h) (marks-in e) g ∙ has-at o h g) q)
-sometime-has o f (earlier k q) = earlier k (sometime-has o f q)
-
--- what a word names where its slot shadows a table, or a split
-pub named-table : (r : Answer) (g : ℕ) (y : SyncState) → shadows (Table g y) (thing-named r) ≡ true → (is-table r ≡ true) × (r .value ≡ g)
-named-table r g y e = go (is-table r) refl
-  where
-    go : (b : Bool) → is-table r ≡ b → (is-table r ≡ true) × (r .value ≡ g)
-    go true q = (q, sym (eqb-true g (r .value) (subst (λ (z : Bool). shadows (Table g y) (cond z (thing.Table (r .value)) (thing.Split (r .value))) ≡ true) q e)))
-    go false q = let z : false ≡ true = subst (λ (u : Bool). shadows (Table g y) (cond u (thing.Table (r .value)) (thing.Split (r .value))) ≡ true) q e in clash cc
-
-pub named-split : (r : Answer) (g : ℕ) → shadows (Split g) (thing-named r) ≡ true → (is-table r ≡ false) × (r .value ≡ g)
-named-split r g e = go (is-table r) refl
-  where
-    go : (b : Bool) → is-table r ≡ b → (is-table r ≡ false) × (r .value ≡ g)
-    go true q = let z : false ≡ true = subst (λ (u : Bool). shadows (Split g) (cond u (thing.Table (r .value)) (thing.Split (r .value))) ≡ true) q e in clash cc
-    go false q = (q, sym (eqb-true g (r .value) (subst (λ (z : Bool). shadows (Split g) (cond z (thing.Table (r .value)) (thing.Split (r .value))) ≡ true) q e)))
-
-same-root : (a b : ℕ) (x : Shadow) → x ≡ Directory a → x ≡ Directory b → a ≡ b
-same-root a b x p q = cc
+use Rattle.runs.proofs.Windows.{Same-frames, has-at, last-is, present, since, sometime-has, table-index-small, word-index-small}
 
 module _ (F : Format) (laws : Laws-of-marking F) (o : Opening) (h : History) (r : Running) (good : Good F o h r) (a : Asked) where
   abbrev m : Memory
@@ -85,9 +51,7 @@ module _ (F : Format) (laws : Laws-of-marking F) (o : Opening) (h : History) (r 
 
   -- the link of the access, by the root in force
   link-up : (w s : ℕ) → place-at I D (r .table) ≡ Link w s → Up F w (word-at m R D)
-  link-up w s p =
-      let l = good .fit .sound .links I D w s p in
-      subst (λ (x : ℕ). Up F w (word-at m x D)) (same-root (l .root) R (shadow-at I (r .table)) (l .is) (good .rooted)) (l .up)
+  link-up w s p = link-now F m (view (r .table)) (good .fit .sound) I D R w s (good .rooted) p
 
   -- through a large page
   piece-walk : (w s g : ℕ) (b : Bool) → place-at I D (r .table) ≡ Link w s → shadow-at s (r .table) ≡ Split g → place-at s J (r .table) ≡ Piece b
@@ -112,11 +76,7 @@ module _ (F : Format) (laws : Laws-of-marking F) (o : Opening) (h : History) (r 
 
   -- a protected table's word is the guest's, but for marks
   leaf-up : (s x f g : ℕ) (b : Bool) → place-at s J (r .table) ≡ Leaf x f b → shadow-at s (r .table) ≡ Table g Protected → Up F x (word-at m g J)
-  leaf-up s x f g b q i =
-      let e = good .fit .sound .leaves s J x f b q in
-      let c : e .frame ≡ g = cc (e .is, i) in
-      let d : e .state ≡ Protected = cc (e .is, i) in
-      subst (λ (n : ℕ). Up F x (word-at m n J)) c (e .up d)
+  leaf-up s x f g b q i = leaf-now F m (view (r .table)) (good .fit .sound) s J g x f b i q
 
   window : (f : ℕ) → Hit F a (r .table) I f → Sometime o (λ n. guest-walk F a R n ≡ to f []) (page-of (a .address)) h
   window _ (by-piece {w} {s} {g} {b} p y q z) = present o _ (page-of (a .address)) h (piece-walk w s g b p y q z)
@@ -147,7 +107,7 @@ module _ (F : Format) (laws : Laws-of-marking F) (o : Opening) (h : History) (r 
           let free = subst (λ ws. Unstored ws (page-of (a .address)) h) read u in
           leaf-walk w s x f (e .frame) b Unsynchronised p q i z m (has-at o h) (link-up w s p)
           (since F o x (e .frame) J (page-of (a .address)) h (good .raised) (table-index-small (a .address))
-          (sometime-map o {P = Then F R (a .address) w (e .frame) x} (λ n v. v .1) (good .past I (a .address) w s (e .frame) x f b (good .rooted) p i q)) (free .1 .0))
+          (sometime-has o {P = Then F R (a .address) w (e .frame) x} (λ n same v. v .1) (good .past I (a .address) w s (e .frame) x f b (good .rooted) p i q)) (free .1 .0))
 
   target-has : (f : ℕ) → Hit F a (r .table) I f → has-words (m f) ≡ true
   target-has _ (by-piece {w} {s} {g} {b} p y q z) =

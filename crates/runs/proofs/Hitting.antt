@@ -1,35 +1,23 @@
--- What a hit says, and when there is one.
-use mathlib.Core.Path.{_≡_, refl, sym, ap, subst, _∙_}
+-- An access hits just where its link stands, with a leaf or a piece below it that lets it through.
+use mathlib.Core.Path.{_≡_, refl, ap, subst, _∙_}
 use mathlib.Core.Bool.{Bool, true, false, cond, not, _&&_, _||_}
-use mathlib.Core.List.{List, [], _∷_}
-use Prim.Native.Nat.{ℕ, _+_, _<_}
-use native.Mathlib.Omega.{arith}
+use mathlib.Core.List.{[], _∷_}
+use Prim.Native.Nat.{ℕ, _+_}
 use lib.Dec.{eqb, ltb}
-use borrow.Author.Tests.{eqb-true, eq-eqb}
-use Rattle.std.specs.Options.{isSome}
-use Rattle.std.specs.declared.option.Option.{Option}
+use Rattle.std.proofs.shelf.Tests.{and-parts, eq-eqb, eqb-true}
 use Rattle.std.specs.declared.option.Option.the-variants.{Some, None}
 use Rattle.paging.specs.Formats.{Format}
 use Rattle.paging.specs.Terms.{directory-level, store, table-level}
-use Rattle.hits.specs.Hits.{copied-at, copied-below, copied-from, copied-piece, copied-words, hit-of, hits, number-limit, passes}
+use Rattle.hits.specs.Hits.{copied-at, copied-below, copied-from, copied-piece, hits, number-limit, passes}
 use Rattle.shadow.specs.Slots.{place-at, shadow-at}
-use Rattle.hits.specs.declared.hits.Copied.{Copied}
 use Rattle.slot.specs.declared.slots.Place.{Place}
 use Rattle.slot.specs.declared.slots.Place.the-variants.{Empty, Link, Leaf, Piece}
 use Rattle.slot.specs.declared.slots.Shadow.{Shadow}
 use Rattle.slot.specs.declared.slots.Shadow.the-variants.{Nothing, Directory, Table, Split}
 use Rattle.shadow.specs.declared.slots.SlotTable.{SlotTable}
 use Rattle.walk.specs.Walk.{Asked, directory-index, table-index}
-use Rattle.runs.specs.Unit.{hit-by, hit-target, root-slot}
-use Rattle.runs.proofs.Fewer.{clash}
-
-and-left : (a b : Bool) → (a && b) ≡ true → a ≡ true
-and-left true b e = refl
-and-left false b e = e
-
-and-right : (a b : Bool) → (a && b) ≡ true → b ≡ true
-and-right true b e = e
-and-right false b e = clash cc
+use Rattle.runs.specs.Unit.{hit-by}
+use Rattle.runs.proofs.Basics.{clash}
 
 -- the parts of a hit through a table and of one through a large page
 pub record Hits-small (F : Format) (k p w x : ℕ) (b : Bool) : Type 0 where
@@ -49,24 +37,26 @@ module _ (F : Format) (k p w : ℕ) (b : Bool) where
       let A : Bool = F .allows (w ∷ x ∷ []) k p in
       let U : Bool = eqb (F .marks directory-level k w) w in
       let L : Bool = eqb (F .marks table-level k x) x in
-      let q : (A && (U && (L && true))) ≡ true = and-left (A && (U && (L && true))) (passes k b) e in
-      let m : (U && (L && true)) ≡ true = and-right A (U && (L && true)) q in
+      let top = and-parts (A && (U && (L && true))) (passes k b) e in
+      let rest = and-parts A (U && (L && true)) (top .0) in
+      let both = and-parts U (L && true) (rest .1) in
       record {
-        allows = and-left A (U && (L && true)) q;
-        upper = eqb-true (F .marks directory-level k w) w (and-left U (L && true) m);
-        lower = eqb-true (F .marks table-level k x) x (and-left L true (and-right U (L && true) m));
-        flag = and-right (A && (U && (L && true))) (passes k b) e;
+        allows = rest .0;
+        upper = eqb-true (F .marks directory-level k w) w (both .0);
+        lower = eqb-true (F .marks table-level k x) x (and-parts L true (both .1) .0);
+        flag = top .1;
       }
 
   pub large-parts : hits F k p (w ∷ []) b ≡ true → Hits-large F k p w b
   large-parts e =
       let A : Bool = F .allows (w ∷ []) k p in
       let U : Bool = eqb (F .marks directory-level k w) w in
-      let q : (A && (U && true)) ≡ true = and-left (A && (U && true)) (passes k b) e in
+      let top = and-parts (A && (U && true)) (passes k b) e in
+      let rest = and-parts A (U && true) (top .0) in
       record {
-        allows = and-left A (U && true) q;
-        upper = eqb-true (F .marks directory-level k w) w (and-left U true (and-right A (U && true) q));
-        flag = and-right (A && (U && true)) (passes k b) e;
+        allows = rest .0;
+        upper = eqb-true (F .marks directory-level k w) w (and-parts U true (rest .1) .0);
+        flag = top .1;
       }
 
   pub small-hits : (x : ℕ) → F .allows (w ∷ x ∷ []) k p ≡ true → F .marks directory-level k w ≡ w → F .marks table-level k x ≡ x → passes k b ≡ true → hits F k p (w ∷ x ∷ []) b ≡ true

@@ -1,39 +1,34 @@
--- The link of an access that walked: it is there, with the present word, and names the slot below.
+-- After an access that walked its link is there, with the present word, and names the slot below.
 use mathlib.Core.Path.{_≡_, refl, sym, ap, subst, _∙_}
-use mathlib.Core.Bool.{Bool, true, false, cond, not, _&&_}
-use mathlib.Core.List.{List, [], _∷_}
+use mathlib.Core.Bool.{Bool, true, false, cond, _&&_}
+use mathlib.Core.List.{List}
 use mathlib.Core.Logic.{_⊎_, inl, inr, ⊎-elim}
-use Prim.Native.Nat.{ℕ, _≤_, _<_}
-use native.Mathlib.Omega.{arith}
+use Prim.Native.Nat.{ℕ, _<_}
 use lib.Dec.{eqb}
-use borrow.Author.Tests.{eqb-true, eq-eqb}
-use Rattle.std.specs.declared.option.Option.{Option}
-use Rattle.std.specs.declared.option.Option.the-variants.{Some, None}
-use Rattle.memory.specs.Answers.{Answer}
-use Rattle.memory.specs.Memory.{Memory, has-words}
+use Rattle.std.proofs.shelf.Tests.{eq-eqb, eqb-true}
+use Rattle.std.specs.declared.option.Option.the-variants.{Some}
+use Rattle.memory.specs.Memory.{Memory}
 use Rattle.paging.specs.Formats.{Format}
-use Rattle.paging.specs.Terms.{directory-level, is-table}
+use Rattle.paging.specs.Terms.{directory-level}
 use Rattle.policies.specs.Orders.{Orders-kept, Rule}
 use Rattle.shadow.specs.Slots.{place-at, put-place, shadow-at}
 use Rattle.slot.specs.Slot.{is-nothing, lags, shadows}
 use Rattle.slot.specs.declared.slots.Place.{Place}
 use Rattle.slot.specs.declared.slots.Place.the-variants.{Empty, Link, Leaf, Piece}
-use Rattle.slot.specs.declared.slots.Shadow.{Shadow}
-use Rattle.slot.specs.declared.slots.Shadow.the-variants.{Nothing, Directory, Table, Split}
+use Rattle.slot.specs.declared.slots.Shadow.the-variants.{Directory, Table}
 use Rattle.shadow.specs.declared.slots.SlotTable.{SlotTable}
-use Rattle.slot.specs.declared.slots.SyncState.{SyncState}
-use Rattle.slot.specs.declared.slots.SyncState.the-variants.{Protected, Unsynchronised}
-use Rattle.slot.specs.declared.slots.Thing.{Thing}
-use Rattle.slot.specs.declared.slots.Thing.the-variants as thing
+use Rattle.slot.specs.declared.slots.SyncState.the-variants.{Unsynchronised}
 use Rattle.runs.specs.Laws.{word-at}
-use Rattle.runs.specs.Unit.{Taken, good-link, link-slot, linked, obtain, root-slot, taken, thing-named, with-link}
-use Rattle.runs.proofs.Fewer.{Fewer, Leaf-there, clash}
-use Rattle.runs.proofs.Good.{Fit}
+use Rattle.runs.specs.Unit.{Taken, good-link, link-slot, linked, obtain, root-slot, taken, with-link}
+use Rattle.runs.proofs.Basics.{by-eq₂, clash}
+use Rattle.runs.proofs.Fewer.{Fewer, Leaf-there}
+use Rattle.runs.proofs.Good.{Fit, refit}
 use Rattle.runs.proofs.Places.{roomy-put, small-slot, view-put}
+use Rattle.runs.proofs.Shadows.{directory-here, filled, named-no-directory}
 use Rattle.runs.proofs.Sound.{Leads, Sound, Up, named, same}
-use Rattle.runs.proofs.Sounds.{by-eq₂, sound-link}
+use Rattle.runs.proofs.Sounds.{sound-link}
 use Rattle.runs.proofs.Taking.{Got, Has-frame, free-but, got}
-use Rattle.runs.proofs.Views.{Roomy, View, v-put, view}
+use Rattle.runs.proofs.Views.{View, v-put, view}
 
 -- a link of the root's directory with a leaf of an unsynchronised table below it
 pub record Trip (v : View) (root i d w s f j x c : ℕ) : Type 0 where
@@ -74,13 +69,6 @@ module _ (v : View) (i j : ℕ) (p : Place) where
   unfolding v-put
   put-sh k = refl
 
-not-directory : (r : Answer) (f : ℕ) → thing-named r ≡ thing.Directory f → ⊥
-not-directory r f = go (is-table r)
-  where
-    go : (b : Bool) → cond b (thing.Table (r .value)) (thing.Split (r .value)) ≡ thing.Directory f → ⊥
-    go true e = clash cc
-    go false e = clash cc
-
 module _ (F : Format) (R : Rule) (kept-order : Orders-kept R) (m : Memory) (root : ℕ) (t : SlotTable) (q : List ℕ) (ok : Fit F m t q) where
   abbrev I : ℕ
   I = root-slot root t
@@ -94,22 +82,11 @@ module _ (F : Format) (R : Rule) (kept-order : Orders-kept R) (m : Memory) (root
     pub dirs : (i f : ℕ) → shadow-at i (k .table) ≡ Directory f → shadow-at i t ≡ Directory f
     pub olds : Olds root (view t) (view (k .table))
 
-  filled-small : (i : ℕ) (x : Thing) → shadows (shadow-at i t) x ≡ true → i < 8
-  filled-small i x e = small-slot t i (ok .roomy) (go (shadow-at i t) x e)
-    where
-      go : (y : Shadow) (z : Thing) → shadows y z ≡ true → is-nothing y ≡ false
-      go Nothing (thing.Directory f) u = clash cc
-      go Nothing (thing.Table f) u = clash cc
-      go Nothing (thing.Split f) u = clash cc
-      go (Directory f) z u = refl
-      go (Table f y) z u = refl
-      go (Split f) z u = refl
-
   module _ (rooted : shadow-at I t ≡ Directory root) (d w : ℕ) (inside : d < 1024) (leads : Leads F w) (present : word-at m root d ≡ w) (has : Has-frame m (named F w)) where
     there : (s : ℕ) → place-at I d t ≡ Link w s → shadows (shadow-at s t) (named F w) ≡ true → Linked-up d w (taken s t q 0)
     there s e z = record {
       fit = ok;
-      small = filled-small s (named F w) z;
+      small = small-slot t s (ok .roomy) (filled (shadow-at s t) (named F w) z);
       dir = rooted;
       link = e;
       is = z;
@@ -120,18 +97,13 @@ module _ (F : Format) (R : Rule) (kept-order : Orders-kept R) (m : Memory) (root
     written : (k : Taken) → Got F R kept-order m (Some root) (named F w) t k → Linked-up d w (with-link I d w k)
     unfolding v-put
     written k g = record {
-      fit = record {
-        roomy = roomy-put I d (Link w (k .slot)) (k .table) (g .fit .roomy);
-        many = g .fit .many;
-        few = g .fit .few;
-        ordered = g .fit .ordered;
-        sound = subst (Sound F m) (sym put) (sound-link F m (view (k .table)) (g .fit .sound) I root d w (k .slot) kept inside leads (g .is) (subst (Up F w) (sym present) same));
-      };
+      fit = refit (g .fit) m _ (roomy-put I d (Link w (k .slot)) (k .table) (g .fit .roomy)) refl
+          (subst (Sound F m) (sym put) (sound-link F m (view (k .table)) (g .fit .sound) I root d w (k .slot) kept inside leads (g .is) (subst (Up F w) (sym present) same)));
       small = g .small;
       dir = ap (λ v. v .sh I) put ∙ kept;
       link = ap (λ v. v .pl I d) put ∙ put-here (view (k .table)) I d (Link w (k .slot));
       is = ap (λ v. shadows (v .sh (k .slot)) (named F w)) put ∙ g .is;
-      dirs = λ i f e. ⊎-elim (λ u. u) (λ u. absurd (not-directory (F .reads directory-level w) f u)) (g .dirs i f (sym (ap (λ v. v .sh i) put) ∙ e));
+      dirs = λ i f e. ⊎-elim (λ u. u) (λ u. absurd (named-no-directory (F .reads directory-level w) f (ap (shadows (Directory f)) u ∙ directory-here f))) (g .dirs i f (sym (ap (λ v. v .sh i) put) ∙ e));
       olds = subst (Olds root (view t)) (sym put) olds;
     }
       where

@@ -1,68 +1,51 @@
--- An access that walks and comes through: it obeys the laws, and leaves a run as it should be.
+-- An access that walks and comes through obeys the laws, and leaves the run good.
 use mathlib.Core.Path.{_≡_, refl, sym, ap, subst, _∙_}
-use mathlib.Core.Bool.{Bool, true, false, cond, not, _&&_, _||_}
+use mathlib.Core.Bool.{Bool, true, false, cond}
 use mathlib.Core.List.{List, [], _∷_}
 use mathlib.Core.Logic.{_⊎_, inl, inr, ⊎-elim}
-use Prim.Native.Nat.{ℕ, _+_, _/_, _%_, _^_, _≤_, _<_}
+use Prim.Native.Nat.{ℕ, _+_, _≤_, _<_}
 use native.Mathlib.Omega.{arith}
-use lib.Dec.{eqb, ltb}
-use borrow.Author.Tests.{eqb-true, eq-eqb}
-use Rattle.std.proofs.shelf.Tests.{cases-lt, lt-ltb, ne-eqb}
+use lib.Dec.{eqb}
+use Rattle.std.proofs.shelf.Tests.{cases-lt, eqb-true, lt-ltb, ne-eqb}
 use Rattle.std.specs.Options.{isSome, valueOr}
 use Rattle.std.specs.declared.option.Option.{Option}
 use Rattle.std.specs.declared.option.Option.the-variants.{Some, None}
-use Rattle.memory.specs.Answers.{Answer}
-use Rattle.memory.specs.Memory.{Memory, has-words, stored}
+use Rattle.memory.specs.Memory.{Memory, has-words}
 use Rattle.paging.specs.Formats.{Format, Laws-of-marking}
-use Rattle.paging.specs.Terms.{directory-level, is-table, store}
+use Rattle.paging.specs.Terms.{directory-level, store}
 use Rattle.policies.specs.Orders.{Orders-kept, Rule}
 use Rattle.walk.specs.Marking.{Write, due, put-all}
 use Rattle.walk.specs.Walk.{Asked, Seen, directory-index, reached, table-index, walk-from, word-index}
 use Rattle.hits.specs.Hits.{copied-at, copied-words, hit-of, hits, number-limit}
 use Rattle.hits.specs.declared.hits.Copied.{Copied}
 use Rattle.shadow.specs.Slots.{find-slot, is-directory, place-at, put-place, shadow-at}
-use Rattle.slot.specs.Slot.{is-directory-of, is-split-of, is-table-of, shadows}
+use Rattle.slot.specs.Slot.{is-directory-of, shadows}
 use Rattle.slot.specs.declared.slots.Place.{Place}
-use Rattle.slot.specs.declared.slots.Place.the-variants.{Empty, Link, Leaf, Piece}
-use Rattle.slot.specs.declared.slots.Shadow.{Shadow}
-use Rattle.slot.specs.declared.slots.Shadow.the-variants.{Nothing, Directory, Table, Split}
+use Rattle.slot.specs.declared.slots.Place.the-variants.{Link}
+use Rattle.slot.specs.declared.slots.Shadow.the-variants.{Directory, Table, Split}
 use Rattle.shadow.specs.declared.slots.SlotTable.{SlotTable}
-use Rattle.slot.specs.declared.slots.SyncState.{SyncState}
 use Rattle.slot.specs.declared.slots.Thing.{Thing}
 use Rattle.slot.specs.declared.slots.Thing.the-variants as thing
-use Rattle.runs.specs.Histories.{History, Never-root, Opening, Sometime, earlier, memory-at, mode-at, root-at, store-of, went}
-use Rattle.runs.specs.Laws.{Lawful-through, Recent, guest-walk, just, last-put, last-written, to, word-at}
+use Rattle.runs.specs.Histories.{History, Never-root, Opening, earlier, memory-at, mode-at, root-at, store-of, went}
+use Rattle.runs.specs.Laws.{Lawful-through, Recent, guest-walk, just, last-put, to, word-at}
 use Rattle.runs.specs.Laws as laws-of
 use Rattle.runs.specs.Runs.{Bounded}
-use Rattle.runs.specs.Terms.{Through, hidden, no-exit, page-of}
-use Rattle.runs.specs.Unit.{Running, Taken, Traced, count-in, hit-by, hit-target, linked, new-place, root-slot, store-traced, tell-path, thing-named, traced, value-of}
-use Rattle.runs.proofs.Fewer.{clash}
-use Rattle.runs.proofs.Good.{Fit, Good, Past, Then}
+use Rattle.runs.specs.Terms.{Through, hidden, page-of}
+use Rattle.runs.specs.Unit.{Running, Taken, Traced, count-in, hit-by, hit-target, linked, new-place, root-slot, store-traced, tell-path, traced, value-of}
+use Rattle.runs.proofs.Basics.{clash, elim-eq, untrue}
+use Rattle.runs.proofs.Good.{Fit, Good, Past, Then, refit}
 use Rattle.runs.proofs.Hitting.{large-hits, leaf-hit, own-flag, piece-hit, small-hits}
-use Rattle.runs.proofs.Linking.{Linked-up, Trip, linked-up}
-use Rattle.runs.proofs.Moments.{Raised}
-use Rattle.runs.proofs.Places.{directory-yes, find-none, find-some, small-slot}
-use Rattle.runs.proofs.Sound.{Leads, Pages, Raises, Sound, Up, named}
-use Rattle.runs.proofs.Sounds.{elim-eq, sound-raise}
-use Rattle.runs.proofs.Storing.{Kept, New, Seen-or, Stands, flag-of, kept-load, kept-store, new-leaf, new-piece, put-shadow, stands-put}
-use Rattle.runs.proofs.Taking.{Has-frame, directory-here, is-directory-at, told-fit}
+use Rattle.runs.proofs.Linking.{Linked-up, linked-up}
+use Rattle.runs.proofs.Memories.{last-put-is}
+use Rattle.runs.proofs.Places.{directory-yes, find-none, find-some}
+use Rattle.runs.proofs.Shadows.{directory-here, is-directory-at, is-split-at, is-table-at, named-by}
+use Rattle.runs.proofs.Sound.{Leads, Pages, Raises, Up, named}
+use Rattle.runs.proofs.Sounds.{sound-raise}
+use Rattle.runs.proofs.Storing.{Kept, New, Stands, flag-of, kept-load, kept-store, new-leaf, new-piece, put-shadow, stands-put}
+use Rattle.runs.proofs.Taking.{Has-frame, told-fit}
 use Rattle.runs.proofs.Views.{View, view}
-use Rattle.runs.proofs.Walking.{Arrived, arrived, below, guest-reached, large, lower, raises-due, settled-large, settled-small, small, small-due, up-allows-one, up-allows-two, up-leads, up-named, up-pages, up-reads, upper}
-use Rattle.runs.proofs.Windows.{before-store, directory-index-small, has-at, last-is, last-put-is, present, table-index-small, word-index-small}
-
--- TESTS OF SHADOWS
-
-is-table-at : (g : ℕ) (x : Shadow) → is-table-of g x ≡ true → (y : SyncState) × (x ≡ Table g y)
-is-table-at g Nothing e = clash cc
-is-table-at g (Directory f) e = clash cc
-is-table-at g (Table f y) e = (y, ap (λ (n : ℕ). Table n y) (eqb-true f g e))
-is-table-at g (Split f) e = clash cc
-
-is-split-at : (g : ℕ) (x : Shadow) → is-split-of g x ≡ true → x ≡ Split g
-is-split-at g Nothing e = clash cc
-is-split-at g (Directory f) e = clash cc
-is-split-at g (Table f y) e = clash cc
-is-split-at g (Split f) e = ap Split (eqb-true f g e)
+use Rattle.runs.proofs.Walking.{Arrived, arrived, below, guest-reached, large, lower, raises-due, settled-large, settled-small, small, small-due, up-allows-one, up-allows-two, up-leads, up-named, up-pages, upper}
+use Rattle.runs.proofs.Windows.{before-store, directory-index-small, has-at, last-is, present, table-index-small, word-index-small}
 
 -- a page has its indices
 pub same-page : (x y : ℕ) → page-of x ≡ page-of y → (directory-index x ≡ directory-index y) × (table-index x ≡ table-index y)
@@ -78,9 +61,6 @@ root-slot-is F m t q fit root i e = go (find-slot (thing.Directory root) t) refl
     go : (s : Option ℕ) → find-slot (thing.Directory root) t ≡ s → valueOr s 0 ≡ i
     go (Some k) z = fit .sound .unique k i (thing.Directory root) (find-some (thing.Directory root) t k (fit .roomy) z .0) yes-i
     go None z = let u : true ≡ false = sym yes-i ∙ find-none (thing.Directory root) t z i in clash cc
-
-named-by : (r : Answer) (b : Bool) → is-table r ≡ b → thing-named r ≡ cond b (thing.Table (r .value)) (thing.Split (r .value))
-named-by r b e = rw e
 
 -- like accesses hit alike
 hit-same : (F : Format) (a b : Asked) (c : Option Copied) → a .kind ≡ b .kind → a .privilege ≡ b .privilege → hit-by F b c ≡ hit-by F a c
@@ -231,13 +211,7 @@ module _ (F : Format) (laws : Laws-of-marking F) (R : Rule) (kept-order : Orders
   raise = due-raises F laws a m root f es way
 
   begun : Fit F n (r .table) (r .order)
-  begun = record {
-    roomy = good .fit .roomy;
-    many = good .fit .many;
-    few = good .fit .few;
-    ordered = good .fit .ordered;
-    sound = sound-raise F m (view (r .table)) (good .fit .sound) n raise;
-  }
+  begun = refit (good .fit) n (r .table) (good .fit .roomy) refl (sound-raise F m (view (r .table)) (good .fit .sound) n raise)
 
   here : Found F a root n f (named F d)
   here = found F laws a m root es way
@@ -364,7 +338,7 @@ module _ (F : Format) (laws : Laws-of-marking F) (R : Rule) (kept-order : Orders
         ∙ ap (last-put f W marks) (last-is F o f W h (sym (has-at o h f) ∙ sym (raise .has f) ∙ target-has) (word-index-small (a .address)) (good .raised)));
     marked = λ u. by-root;
     present = λ u. by-root;
-    exit = λ recent. let c : false ≡ true = sym (ap isSome none) ∙ good .ready a recent in clash cc;
+    exit = λ recent. untrue (sym (ap isSome none) ∙ good .ready a recent);
   }
     where
       by-root : guest-walk F a (root-at o h) m ≡ to f marks

@@ -1,6 +1,6 @@
--- What a history keeps.
+-- What holds of the marks of a history: they only mark, and at indices of frames.
 use mathlib.Core.List.{List, [], _∷_}
-use Prim.Native.Nat.{ℕ, _<_}
+use Prim.Native.Nat.{_<_}
 use Rattle.paging.specs.Formats.{Format}
 use Rattle.walk.specs.Marking.{Write}
 use Rattle.runs.specs.Histories.{History, Opening, marks-in, memory-at, memory-between}

@@ -8,7 +8,7 @@ use native.Mathlib.Omega.{arith}
 use lib.Dec.{eqb, leb, ltb}
 use lib.ListN.{length, getD, set, replicate, getD-replicate, length-map, length-set, length-replicate, List·getD-map}
 use Rattle.std.proofs.shelf.Lists.{getD-map, getD-past, getD-set-other, getD-set-same}
-use Rattle.std.proofs.shelf.Tests.{and-from, and-parts, cases-eq, cases-lt, eq-eqb, ne-eqb, le-leb, leb-true, lt-ltb, ltb-true}
+use Rattle.std.proofs.shelf.Tests.{and-from, and-parts, cases-eq, cases-lt, eq-eqb, le-leb, leb-true, lt-ltb, ltb-true, ne-eqb}
 use Rattle.std.proofs.shelf.Ways.{tells}
 use Rattle.std.specs.Options.{isSome}
 use Rattle.std.specs.declared.option.Option.{Option}
@@ -25,13 +25,11 @@ use Rattle.shadow.specs.declared.slots.SlotTable.{SlotTable}
 use Rattle.slot.specs.declared.slots.SyncState.{SyncState}
 use Rattle.slot.specs.declared.slots.SyncState.the-variants.{Protected, Unsynchronised}
 use Rattle.slot.specs.declared.slots.Thing.{Thing}
-use Rattle.slot.specs.declared.slots.Thing.the-variants as thing
 use Rattle.runs.specs.Laws.{word-at}
 use Rattle.runs.specs.Unit.{frame-list, listed, resync, table-frame}
+use Rattle.runs.proofs.Basics.{clash, untrue}
+use Rattle.runs.proofs.Shadows.{nothing-shadows}
 use Rattle.runs.proofs.Views.{Roomy, View, guard-at, unlink-at, v-check, v-checked, v-drop, v-evict, v-fill, v-flag-off, v-guard, v-put, v-sync, view}
-
-clash : {A : Type 0} → false ≡ true → A
-clash e = let z : _≡_ {A = ℕ} 0 1 = cc in absurd (omega arith)
 
 same-view : (u v : View) → ((k : ℕ) → u .sh k ≡ v .sh k) → ((k l : ℕ) → u .pl k l ≡ v .pl k l) → u ≡ v
 same-view u v p q = λ i. record { sh = λ k. p k i; pl = λ k l. q k l i }
@@ -80,7 +78,7 @@ small-slot t i r e = go (cases-lt i 8)
   where
     go : (i < 8) ⊎ (8 ≤ i) → i < 8
     go (inl k) = k
-    go (inr k) = clash (sym e ∙ ap (λ (s : Slot). is-nothing (s .shadow)) (getD-past (t .slots) i no-slot (rw (r .slots) k)))
+    go (inr k) = untrue (sym e ∙ ap (λ (s : Slot). is-nothing (s .shadow)) (getD-past (t .slots) i no-slot (rw (r .slots) k)))
 
 -- GUARDING
 
@@ -105,7 +103,7 @@ module _ (f : ℕ) (s : Slot) where
 
       outside : in-split f g ≡ false → (g + j < g + 1024) ⊎ (g + 1024 ≤ g + j) → (g + j ≡ f) ⊎ (g + j ≡ f → ⊥) → getD (s .places) j Empty ≡ cond (eqb (g + j) f) (flag-off (getD (s .places) j Empty)) (getD (s .places) j Empty)
       outside e c (inr n) = ap (λ b. cond b (flag-off (getD (s .places) j Empty)) (getD (s .places) j Empty)) (sym (ne-eqb (g + j) f n))
-      outside e (inl h) (inl q) = clash (sym e ∙ and-from (leb g f) (ltb f (g + 1024)) (le-leb g f (omega arith)) (lt-ltb f (g + 1024) (omega arith)))
+      outside e (inl h) (inl q) = untrue (sym e ∙ and-from (leb g f) (ltb f (g + 1024)) (le-leb g f (omega arith)) (lt-ltb f (g + 1024) (omega arith)))
       outside e (inr h) (inl q) = let none : getD (s .places) j Empty ≡ Empty = past (omega arith) in none ∙ sym (ap (λ x. cond (eqb (g + j) f) (flag-off x) x) none ∙ stays)
 
       go : (b : Bool) → in-split f g ≡ b → getD (cond b (change-place (f - g) flag-off s) s .places) j Empty ≡ cond (eqb (g + j) f) (flag-off (getD (s .places) j Empty)) (getD (s .places) j Empty)
@@ -194,7 +192,7 @@ module _ (p : ℕ → Slot → Bool) where
     passes : p i (getD ss step no-slot) ≡ true
 
   first-some : (k : ℕ) (ss : List Slot) (i : ℕ) → first-from p k ss ≡ Some i → Found k ss i
-  first-some k [] i e = let z : _≡_ {A = ℕ} 0 1 = cc in absurd (omega arith)
+  first-some k [] i e = clash cc
   first-some k (s ∷ ss) i e = go (p k s) refl (first-some (suc k) ss i) e
     where
       go : (b : Bool) → p k s ≡ b → (first-from p (suc k) ss ≡ Some i → Found (suc k) ss i) → cond b (Some k) (first-from p (suc k) ss) ≡ Some i → Found k (s ∷ ss) i
@@ -206,7 +204,7 @@ module _ (p : ℕ → Slot → Bool) where
   first-none k (s ∷ ss) e j n is h = go (p k s) refl (first-none (suc k) ss) e j is h
     where
       go : (b : Bool) → p k s ≡ b → (first-from p (suc k) ss ≡ None → (j n : ℕ) → suc k + j ≡ n → j < length ss → p n (getD ss j no-slot) ≡ false) → cond b (Some k) (first-from p (suc k) ss) ≡ None → (j : ℕ) → k + j ≡ n → j < suc (length ss) → p n (getD (s ∷ ss) j no-slot) ≡ false
-      go true q later e j is h = let z : _≡_ {A = ℕ} 0 1 = cc in absurd (omega arith)
+      go true q later e j is h = clash cc
       go false q later e zero is h = let same : k ≡ n = omega arith in subst (λ (m : ℕ). p m s ≡ false) same q
       go false q later e (suc j) is h = later e j n (omega arith) (omega arith)
 
@@ -228,7 +226,7 @@ module _ (q : Shadow → Bool) (t : SlotTable) where
   slot-some = go (first-from (λ k s. q (s .shadow)) 0 (t .slots)) refl
     where
       go : (o : Option ℕ) → first-from (λ k s. q (s .shadow)) 0 (t .slots) ≡ o → isSome o ≡ true → (i : ℕ) × (q (shadow-at i t) ≡ true)
-      go None e z = clash z
+      go None e z = untrue z
       go (Some i) e z = (i, slot-found i e .0)
 
   slot-none : q Nothing ≡ false → isSome (first-from (λ k s. q (s .shadow)) 0 (t .slots)) ≡ false → (k : ℕ) → q (shadow-at k t) ≡ false
@@ -236,18 +234,13 @@ module _ (q : Shadow → Bool) (t : SlotTable) where
     where
       go : (o : Option ℕ) → first-from (λ k s. q (s .shadow)) 0 (t .slots) ≡ o → isSome o ≡ false → (k : ℕ) → q (shadow-at k t) ≡ false
       go None e z = slot-missed n e
-      go (Some i) e z = clash (sym z)
-
-no-shadow : (x : Thing) → shadows Nothing x ≡ false
-no-shadow (thing.Directory f) = refl
-no-shadow (thing.Table f) = refl
-no-shadow (thing.Split f) = refl
+      go (Some i) e z = untrue (sym z)
 
 pub find-some : (x : Thing) (t : SlotTable) (i : ℕ) → Roomy t → find-slot x t ≡ Some i → (shadows (shadow-at i t) x ≡ true) × (i < 8)
 find-some x t i r e = let k = slot-found (λ y. shadows y x) t i e in (k .0, subst (λ (n : ℕ). i < n) (r .slots) (k .1))
 
 pub find-none : (x : Thing) (t : SlotTable) → find-slot x t ≡ None → (k : ℕ) → shadows (shadow-at k t) x ≡ false
-find-none x t e = slot-missed (λ y. shadows y x) t (no-shadow x) e
+find-none x t e = slot-missed (λ y. shadows y x) t (nothing-shadows x) e
 
 pub empty-some : (t : SlotTable) (i : ℕ) → first-empty t ≡ Some i → (is-nothing (shadow-at i t) ≡ true) × (i < t .count)
 empty-some t i e = let r = first-some (λ k s. is-free (t .count) k (s .shadow)) 0 (t .slots) i e in
@@ -297,7 +290,7 @@ module _ (r : Option ℕ) (t : SlotTable) (i : ℕ) where
     where
       go : (i < 8) ⊎ (8 ≤ i) → may-take r t i ≡ true
       go (inl h) = sym (permitted-at h) ∙ e
-      go (inr h) = clash (sym (getD-past (permitted r t) i false h) ∙ e)
+      go (inr h) = untrue (sym (getD-past (permitted r t) i false h) ∙ e)
 
 -- FILLING AND PUTTING
 

@@ -1,29 +1,28 @@
 -- Checking unsynchronised tables keeps slots fit.
 use mathlib.Core.Path.{_≡_, refl, sym, ap, subst, _∙_}
-use mathlib.Core.Bool.{Bool, true, false, cond, not}
+use mathlib.Core.Bool.{true, false, cond}
 use mathlib.Core.List.{List, [], _∷_}
-use Prim.Native.Nat.{ℕ, zero, suc, _≤_, _<_}
+use Prim.Native.Nat.{ℕ, zero, suc, _<_}
 use native.Mathlib.Omega.{arith}
-use lib.Dec.{eqb}
-use borrow.Author.Tests.{eqb-true, eq-eqb}
+use Rattle.std.proofs.shelf.Tests.{eq-eqb}
 use Rattle.memory.specs.Memory.{Memory}
 use Rattle.paging.specs.Formats.{Format}
 use Rattle.shadow.specs.Slots.{shadow-at}
-use Rattle.slot.specs.Slot.{is-directory-of, is-nothing, is-table-of, lags, shadows}
+use Rattle.slot.specs.Slot.{is-nothing, lags, shadows}
 use Rattle.slot.specs.declared.slots.Shadow.{Shadow}
 use Rattle.slot.specs.declared.slots.Shadow.the-variants.{Nothing, Directory, Table, Split}
 use Rattle.shadow.specs.declared.slots.SlotTable.{SlotTable}
-use Rattle.slot.specs.declared.slots.SyncState.{SyncState}
 use Rattle.slot.specs.declared.slots.SyncState.the-variants.{Protected, Unsynchronised}
 use Rattle.slot.specs.declared.slots.Thing.{Thing}
-use Rattle.slot.specs.declared.slots.Thing.the-variants as thing
 use Rattle.runs.specs.Unit.{resync, resync-all, resync-each}
-use Rattle.runs.proofs.Fewer.{Fewer, clash, fewer-check, fewer-same, fewer-trans}
-use Rattle.runs.proofs.Good.{Fit}
+use Rattle.runs.proofs.Basics.{by-eq, clash}
+use Rattle.runs.proofs.Fewer.{Fewer, fewer-check, fewer-same, fewer-trans}
+use Rattle.runs.proofs.Good.{Fit, refit}
 use Rattle.runs.proofs.Places.{count-resync, resync-checked, resync-kept, roomy-resync, small-slot}
+use Rattle.runs.proofs.Shadows.{alike-shadows}
 use Rattle.runs.proofs.Sound.{Sound}
-use Rattle.runs.proofs.Sounds.{by-eq, sound-check}
-use Rattle.runs.proofs.Views.{View, v-check, v-checked, v-guard, view}
+use Rattle.runs.proofs.Sounds.{checked-alike, sound-check}
+use Rattle.runs.proofs.Views.{View, v-check, v-guard, view}
 
 -- slots n that came from slots t by checks
 pub record Turned (t n : SlotTable) : Type 0 where
@@ -45,11 +44,6 @@ turned-trans p q = record {
 }
 
 -- one checked slot, as a view
-same-thing : (f : ℕ) (y : SyncState) (x : Thing) → shadows (Table f Protected) x ≡ shadows (Table f y) x
-same-thing f y (thing.Directory g) = refl
-same-thing f y (thing.Table g) = refl
-same-thing f y (thing.Split g) = refl
-
 module _ (m : Memory) (i f : ℕ) (v : View) where
   pub check-here : v-check m i f v .sh i ≡ Table f Protected
   unfolding v-check v-guard
@@ -57,9 +51,7 @@ module _ (m : Memory) (i f : ℕ) (v : View) where
 
   pub check-things : v .sh i ≡ Table f Unsynchronised → (k : ℕ) (x : Thing) → shadows (v-check m i f v .sh k) x ≡ shadows (v .sh k) x
   unfolding v-check v-guard
-  check-things at k x =
-      by-eq k i (λ b. shadows (cond b (Table f Protected) (v .sh k)) x ≡ shadows (v .sh k) x)
-      (λ e. same-thing f Unsynchronised x ∙ ap (λ z. shadows z x) (sym (ap (v .sh) e ∙ at))) (λ n. refl)
+  check-things at k x = alike-shadows (checked-alike m i f Unsynchronised v at k) x
 
   pub check-vacant : v .sh i ≡ Table f Unsynchronised → (k : ℕ) → v .sh k ≡ Nothing → v-check m i f v .sh k ≡ Nothing
   unfolding v-check v-guard
@@ -87,13 +79,7 @@ module _ (F : Format) (m : Memory) where
           let is = resync-checked m i f t (fit .roomy) e in
           let count = count-resync m i t in
           record {
-            fit = record {
-              roomy = roomy-resync m i t (fit .roomy);
-              many = subst (λ (c : ℕ). 2 ≤ c) (sym count) (fit .many);
-              few = subst (λ (c : ℕ). c ≤ 8) (sym count) (fit .few);
-              ordered = λ k l. fit .ordered k (subst (λ (c : ℕ). k < c) count l);
-              sound = subst (Sound F m) (sym is) (sound-check F m (view t) (fit .sound) i f Unsynchronised e);
-            };
+            fit = refit fit m (resync m i t) (roomy-resync m i t (fit .roomy)) count (subst (Sound F m) (sym is) (sound-check F m (view t) (fit .sound) i f Unsynchronised e));
             turned = record {
               count = count;
               fewer = subst (Fewer (view t)) (sym is) (fewer-check m i f (view t));

@@ -1,13 +1,11 @@
 -- Every run is good, from its opening on, and so every call answers by the laws.
 use mathlib.Core.Path.{_≡_, refl, sym, ap, ap₂, subst, _∙_}
-use mathlib.Core.Bool.{Bool, true, false, cond}
-use mathlib.Core.List.{List, [], _∷_}
-use mathlib.Core.Logic.{_⊎_, inl, inr, ⊎-elim}
+use mathlib.Core.Bool.{true}
+use mathlib.Core.List.{[]}
+use mathlib.Core.Logic.{⊎-elim}
 use Prim.Native.Nat.{ℕ, zero, suc, _+_, _≤_, _<_}
 use native.Mathlib.Omega.{arith}
-use lib.Dec.{eqb}
-use borrow.Author.Tests.{eqb-true, eq-eqb}
-use Rattle.std.proofs.shelf.Tests.{cases-eq, ne-eqb}
+use Rattle.std.proofs.shelf.Tests.{cases-eq, eq-eqb, ne-eqb}
 use Rattle.std.specs.Options.{isSome}
 use Rattle.std.specs.declared.option.Option.{Option}
 use Rattle.std.specs.declared.option.Option.the-variants.{Some, None}
@@ -15,27 +13,24 @@ use Rattle.memory.specs.Memory.{Memory, has-words}
 use Rattle.paging.specs.Formats.{Format, Laws-of-marking}
 use Rattle.paging.specs.Terms.{supervisor}
 use Rattle.policies.specs.Orders.{Orders-kept, Rule, numbered, rising, times}
-use Rattle.shadow.specs.Slots.{fresh, place-at, shadow-at}
-use Rattle.slot.specs.Slot.{lags, shadows}
-use Rattle.slot.specs.declared.slots.Place.{Place}
+use Rattle.shadow.specs.Slots.{fresh, shadow-at}
+use Rattle.slot.specs.Slot.{shadows}
 use Rattle.slot.specs.declared.slots.Place.the-variants.{Empty, Link, Leaf, Piece}
-use Rattle.slot.specs.declared.slots.Shadow.{Shadow}
-use Rattle.slot.specs.declared.slots.Shadow.the-variants.{Nothing, Directory, Table, Split}
-use Rattle.shadow.specs.declared.slots.SlotTable.{SlotTable}
-use Rattle.slot.specs.declared.slots.Thing.{Thing}
+use Rattle.slot.specs.declared.slots.Shadow.the-variants.{Nothing, Directory}
 use Rattle.slot.specs.declared.slots.Thing.the-variants as thing
 use Rattle.runs.specs.Histories.{History, Opening, memory-at}
-use Rattle.runs.specs.Laws.{Lawful-from, Lawful-reply, Lawful-run, Recent, after-call}
-use Rattle.runs.specs.Runs.{Bounded, Calls-lawful, Lawful, Run, goes, opened, replies}
-use Rattle.runs.specs.Terms.{Call, Reply, access, close-run, deliver, flush-all, flush-page, give-up, open-run, poke, set-mode, switch-root}
-use Rattle.runs.specs.Unit.{Ended, Running, State, Taken, in-run, no-tallies, opened-at, opened-with, root-slot, step, step-in, take-slot}
-use Rattle.runs.proofs.Calls.{Next, call-fine}
-use Rattle.runs.proofs.Fewer.{clash}
+use Rattle.runs.specs.Laws.{Lawful-reply, Recent, after-call}
+use Rattle.runs.specs.Runs.{Bounded, Calls-lawful, Run, goes, opened}
+use Rattle.runs.specs.Terms.{Call, access, close-run, deliver, flush-all, flush-page, give-up, open-run, poke, set-mode, switch-root}
+use Rattle.runs.specs.Unit.{Running, State, Taken, no-tallies, opened-at, step, step-in, take-slot}
+use Rattle.runs.proofs.Basics.{clash, untrue}
+use Rattle.runs.proofs.Calls.{call-fine}
 use Rattle.runs.proofs.Good.{Fit, Good}
 use Rattle.runs.proofs.Missing.{root-slot-is}
 use Rattle.runs.proofs.Places.{fresh-place, fresh-shadow, roomy-fresh}
+use Rattle.runs.proofs.Shadows.{is-directory-at, nothing-shadows}
 use Rattle.runs.proofs.Sound.{Backed, Sound, opens}
-use Rattle.runs.proofs.Taking.{Got, free-any, is-directory-at, took}
+use Rattle.runs.proofs.Taking.{Got, free-any, took}
 use Rattle.runs.proofs.Views.{view}
 
 -- each number of a rising order stands in it
@@ -50,22 +45,17 @@ rising-holds a (suc k) i l u =
 abbrev made : Memory → Option Running → State
 made m r = record { memory = m; run = r }
 
-nothing-shadows : (x : Thing) → shadows Nothing x ≡ false
-nothing-shadows (thing.Directory f) = refl
-nothing-shadows (thing.Table f) = refl
-nothing-shadows (thing.Split f) = refl
-
 module _ (F : Format) (m : Memory) (n : ℕ) where
   -- empty slots are sound
   fresh-sound : Sound F m (view (fresh n))
   fresh-sound = record {
-    unique = λ i k x p q. let c : false ≡ true = sym (ap (λ y. shadows y x) (fresh-shadow i n) ∙ nothing-shadows x) ∙ p in clash cc;
+    unique = λ i k x p q. untrue (sym (ap (λ y. shadows y x) (fresh-shadow i n) ∙ nothing-shadows x) ∙ p);
     backed = λ i. subst (Backed m) (sym (fresh-shadow i n)) tt;
     within = λ i j l. fresh-place i j n;
     links = λ i d w s e. let c : Empty ≡ Link w s = sym (fresh-place i d n) ∙ e in clash cc;
     leaves = λ i j w a b e. let c : Empty ≡ Leaf w a b = sym (fresh-place i j n) ∙ e in clash cc;
     pieces = λ i j b e. let c : Empty ≡ Piece b = sym (fresh-place i j n) ∙ e in clash cc;
-    shut = λ i j g k e. let c : false ≡ true = sym (ap (λ p. opens j (shadow-at i (fresh n)) g p) (fresh-place i j n)) ∙ e in clash cc;
+    shut = λ i j g k e. untrue (sym (ap (λ p. opens j (shadow-at i (fresh n)) g p) (fresh-place i j n)) ∙ e);
     apart = λ i k f e q. let c : Nothing ≡ Directory f = sym (fresh-shadow k n) ∙ q in clash cc;
   }
 
@@ -123,7 +113,7 @@ module _ (F : Format) (laws : Laws-of-marking F) (R : Rule) (kept-order : Orders
   step-next h s c good e = go (s .run) refl
     where
       go : (x : Option Running) → s .run ≡ x → Lawful-reply F o h c (step R F s c .reply) × Good-state (after-call o h c (step R F s c .reply)) (step R F s c .next)
-      go None q = let z : false ≡ true = sym (ap isSome q) ∙ e in clash cc
+      go None q = untrue (sym (ap isSome q) ∙ e)
       go (Some r) q =
           let k = good r q in
           subst (λ (y : State). Lawful-reply F o h c (step R F y c .reply) × Good-state (after-call o h c (step R F y c .reply)) (step R F y c .next))
@@ -137,7 +127,7 @@ module _ (F : Format) (laws : Laws-of-marking F) (R : Rule) (kept-order : Orders
   good-run (opened n l u has bounded) = opening-good n l u has bounded
   good-run (goes {h} {s} run c e) = step-next h s c (good-run run) e .1
 
-  -- THE THEOREM FOR ONE CALL, and for a list of calls from an opening
+  -- what every call answers, whether or not a run is open
 
   pub law-of : (h : History) (s : State) (c : Call) → Run F R o h s → Lawful-reply F o h c (step R F s c .reply)
   law-of h s c run = go (s .run) refl

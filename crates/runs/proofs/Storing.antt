@@ -1,66 +1,36 @@
--- The slots after an access that walked: its leaf is written, and a store is traced.
+-- After an access that walked, with its leaf written and its store traced, the slots are still fit.
 use mathlib.Core.Path.{_≡_, refl, sym, ap, subst, _∙_}
-use mathlib.Core.Bool.{Bool, true, false, cond, not, _&&_, _||_}
-use mathlib.Core.List.{List, [], _∷_}
+use mathlib.Core.Bool.{Bool, true, false, cond}
+use mathlib.Core.List.{List}
 use mathlib.Core.Logic.{_⊎_, inl, inr, ⊎-elim}
-use Prim.Native.Nat.{ℕ, _+_, _≤_, _<_}
+use Prim.Native.Nat.{ℕ, _+_, _<_}
 use native.Mathlib.Omega.{arith}
 use lib.Dec.{eqb}
-use borrow.Author.Tests.{eqb-true, eq-eqb}
 use Rattle.std.specs.declared.option.Option.{Option}
 use Rattle.std.specs.declared.option.Option.the-variants.{Some, None}
 use Rattle.memory.specs.Memory.{Memory, has-words, stored}
 use Rattle.paging.specs.Formats.{Format}
 use Rattle.shadow.specs.Slots.{drop-entry, find-slot, flag-off-at, is-directory, is-protected, place-at, put-place, set-sync, shadow-at}
-use Rattle.slot.specs.Slot.{flag-off, is-directory-of, is-nothing, is-protected-state, is-table-of, protects, shadows, with-sync}
+use Rattle.slot.specs.Slot.{flag-off, is-directory-of, is-table-of, protects, with-sync}
 use Rattle.slot.specs.declared.slots.Place.{Place}
 use Rattle.slot.specs.declared.slots.Place.the-variants.{Empty, Link, Leaf, Piece}
-use Rattle.slot.specs.declared.slots.Shadow.{Shadow}
-use Rattle.slot.specs.declared.slots.Shadow.the-variants.{Nothing, Directory, Table, Split}
+use Rattle.slot.specs.declared.slots.Shadow.the-variants.{Directory, Table, Split}
 use Rattle.shadow.specs.declared.slots.SlotTable.{SlotTable}
 use Rattle.slot.specs.declared.slots.SyncState.{SyncState}
 use Rattle.slot.specs.declared.slots.SyncState.the-variants.{Protected, Unsynchronised}
-use Rattle.slot.specs.declared.slots.Thing.{Thing}
 use Rattle.slot.specs.declared.slots.Thing.the-variants as thing
 use Rattle.runs.specs.Laws.{word-at}
 use Rattle.runs.specs.Terms.{hidden, no-exit, trace}
 use Rattle.runs.specs.Unit.{Traced, store-traced, unsync-found}
-use Rattle.runs.proofs.Fewer.{Fewer, Leaf-there, clash, fewer-drop, fewer-same}
-use Rattle.runs.proofs.Good.{Fit}
+use Rattle.runs.proofs.Basics.{by-eq, clash, untrue}
+use Rattle.runs.proofs.Fewer.{fewer-drop}
+use Rattle.runs.proofs.Good.{Fit, refit}
 use Rattle.runs.proofs.Linking.{Olds, Trip, olds-fewer, put-either, put-here, put-other, put-sh}
-use Rattle.runs.proofs.Places.{directory-no, directory-yes, find-none, find-some, protected-no, protected-yes, roomy-drop, roomy-flag-off, roomy-put, roomy-sync, view-drop, view-flag-off, view-put, view-sync}
-use Rattle.runs.proofs.Sound.{Leafed, Linked, Pages, Sound, Up, guards, same}
-use Rattle.runs.proofs.Sounds.{by-eq, flag-off-put, sound-directory-store, sound-leaf, sound-piece, sound-store, sound-unsync, sync-put, unguarded-by-sync}
-use Rattle.runs.proofs.Taking.{is-directory-at}
-use Rattle.runs.proofs.Views.{Roomy, View, v-drop, v-flag-off, v-put, v-sync, view}
-
--- a frame that no directory and no protected table shadows is not guarded
-pub unguarded : (f : ℕ) (x : Shadow) → is-directory-of f x ≡ false → protects f x ≡ false → guards f x ≡ false
-unguarded f Nothing p q = refl
-unguarded f (Directory g) p q = p
-unguarded f (Table g Protected) p q = go (eqb g f) q
-  where
-    go : (b : Bool) → (b && true) ≡ false → b ≡ false
-    go true e = e
-    go false e = refl
-unguarded f (Table g Unsynchronised) p q = refl
-unguarded f (Split g) p q = refl
-
--- what protects a frame is a protected table of it
-pub protected-table : (f : ℕ) (x : Shadow) → protects f x ≡ true → x ≡ Table f Protected
-protected-table f Nothing e = clash cc
-protected-table f (Directory g) e = clash cc
-protected-table f (Table g Protected) e = ap (λ (n : ℕ). Table n Protected) (eqb-true g f (go (eqb g f) e))
-  where
-    go : (b : Bool) → (b && true) ≡ true → b ≡ true
-    go true z = refl
-    go false z = z
-protected-table f (Table g Unsynchronised) e = go (eqb g f) e
-  where
-    go : (b : Bool) → (b && false) ≡ true → Table g Unsynchronised ≡ Table f Protected
-    go true z = clash cc
-    go false z = clash cc
-protected-table f (Split g) e = clash cc
+use Rattle.runs.proofs.Places.{directory-no, find-none, find-some, protected-no, protected-yes, roomy-drop, roomy-flag-off, roomy-put, roomy-sync, view-drop, view-flag-off, view-put, view-sync}
+use Rattle.runs.proofs.Shadows.{Alike, alike-directory, alike-split, alike-sym, alike-table, protected-table, same-table, sync-alike, table-here, unguarded}
+use Rattle.runs.proofs.Sound.{Pages, Sound, Up, guards, same}
+use Rattle.runs.proofs.Sounds.{flag-off-put, leaf-now, link-now, sound-directory-store, sound-leaf, sound-piece, sound-store, sound-unsync, sync-put, unguarded-by-sync}
+use Rattle.runs.proofs.Views.{View, v-drop, v-flag-off, v-put, v-sync, view}
 
 -- What is written at place j of slot s: a leaf with the present word of its table, or a piece, that aims at frame f.
 pub data New (F : Format) (m : Memory) (v : View) (s j f : ℕ) : Place → Type 0 where
@@ -93,18 +63,6 @@ module _ (F : Format) (m : Memory) (v : View) (sound : Sound F m v) (s j f : ℕ
 abbrev pub Seen-or : Format → Memory → ℕ → View → View → Type 0
 Seen-or F m root v n = (i d w s f j x c : ℕ) → Trip n root i d w s f j x c → Trip v root i d w s f j x c ⊎ (Up F w (word-at m root d) × Up F x (word-at m f j))
 
-same-directory : (a b : ℕ) (x : Shadow) → x ≡ Directory a → x ≡ Directory b → a ≡ b
-same-directory a b x p q = cc
-
-same-table : (a b : ℕ) (y z : SyncState) (x : Shadow) → x ≡ Table a y → x ≡ Table b z → a ≡ b
-same-table a b y z x p q = cc
-
--- a link of the root's directory is the guest's
-link-now : (F : Format) (m : Memory) (v : View) → Sound F m v → (root i d w s : ℕ) → v .sh i ≡ Directory root → v .pl i d ≡ Link w s → Up F w (word-at m root d)
-link-now F m v sound root i d w s e p =
-    let l = sound .links i d w s p in
-    subst (λ (n : ℕ). Up F w (word-at m n d)) (same-directory (l .root) root (v .sh i) (l .is) e) (l .up)
-
 module _ (F : Format) (m : Memory) (root : ℕ) (v : View) (sound : Sound F m v) (s j f : ℕ) where
   new-no-link : {p : Place} {w k : ℕ} → New F m v s j f p → p ≡ Link w k → ⊥
   new-no-link (new-leaf e q) z = clash cc
@@ -121,7 +79,7 @@ module _ (F : Format) (m : Memory) (root : ℕ) (v : View) (sound : Sound F m v)
   unfolding v-put
   put-seen p new i d w k g l x c t =
       ⊎-elim
-      (λ a. inr (link-now F m v sound root i d w k (t .dir) old-link, up a))
+      (λ a. inr (link-now F m v sound i d root w k (t .dir) old-link, up a))
       (λ a. inl (record { dir = t .dir; link = old-link; lag = t .lag; leaf = record { flag = t .leaf .flag; is = a } }))
       (put-either v s j p k l (Leaf x c (t .leaf .flag)) (t .leaf .is))
     where
@@ -141,24 +99,11 @@ module _ (F : Format) (m : Memory) (root : ℕ) (v : View) (sound : Sound F m v)
       (λ e z.
       let here : v .sh k ≡ Table g Protected = ap (v .sh) e ∙ at in
       let fg : g ≡ f = cc (sym (ap (with-sync Unsynchronised) here) ∙ z) in
-      inr (link-now F m v sound root i d w k dir (t .link), subst (λ (n : ℕ). Up F x (word-at m n l)) fg (leaf-up k here refl)))
+      inr (link-now F m v sound i d root w k dir (t .link), subst (λ (n : ℕ). Up F x (word-at m n l)) fg (leaf-now F m v sound k l g x c (t .leaf .flag) here (t .leaf .is))))
       (λ e z. inl (record { dir = dir; link = t .link; lag = z; leaf = record { flag = t .leaf .flag; is = t .leaf .is } })) (t .lag)
     where
-      back : (b : Bool) (y : Shadow) → cond b (with-sync Unsynchronised y) y ≡ Directory root → y ≡ Directory root
-      back true Nothing e = e
-      back true (Directory n) e = e
-      back true (Table n u) e = clash cc
-      back true (Split n) e = e
-      back false y e = e
-
       dir : v .sh i ≡ Directory root
-      dir = back (eqb i q) (v .sh i) (t .dir)
-
-      leaf-up : (n : ℕ) → v .sh n ≡ Table g Protected → n ≡ k → Up F x (word-at m g l)
-      leaf-up n e p =
-          let y = sound .leaves n l x c (t .leaf .flag) (ap (λ (z : ℕ). v .pl z l) p ∙ t .leaf .is) in
-          let st : y .state ≡ Protected = cc (y .is, e) in
-          subst (λ (z : ℕ). Up F x (word-at m z l)) (same-table (y .frame) g (y .state) Protected (v .sh n) (y .is) e) (y .up st)
+      dir = alike-directory (alike-sym (sync-alike (eqb i q) Unsynchronised (v .sh i))) root (t .dir)
 
 -- and one after the other
 pub seen-trans : (F : Format) (m : Memory) (root : ℕ) (u v n : View) → Seen-or F m root u v → Seen-or F m root v n → Seen-or F m root u n
@@ -199,26 +144,17 @@ module _ (F : Format) (m : Memory) (root : ℕ) (t : SlotTable) (q : List ℕ) (
   put-dirs : (i g : ℕ) → (shadow-at i (put-place s j p t) ≡ Directory g → shadow-at i t ≡ Directory g) × (shadow-at i t ≡ Directory g → shadow-at i (put-place s j p t) ≡ Directory g)
   put-dirs i g = (λ z. sym (put-shadow i) ∙ z, λ z. put-shadow i ∙ z)
 
-  fit-with : (k : Memory) (n : SlotTable) → Roomy n → n .count ≡ t .count → Sound F k (view n) → Fit F k n q
-  fit-with k n room count snd = record {
-    roomy = room;
-    many = subst (λ (c : ℕ). 2 ≤ c) (sym count) (ok .many);
-    few = subst (λ (c : ℕ). c ≤ 8) (sym count) (ok .few);
-    ordered = λ i l. ok .ordered i (subst (λ (c : ℕ). i < c) count l);
-    sound = snd;
-  }
-
   -- no store, or one to a frame that nothing guards
   pub kept-plain : (k : Memory) → Sound F k (v-put s j p (view t)) → Kept F m root t q s j p k (put-place s j p t) hidden
   kept-plain k snd = record {
-    fit = fit-with k (put-place s j p t) (roomy-put s j p t (ok .roomy)) refl (subst (Sound F k) (sym put) snd);
+    fit = refit ok k (put-place s j p t) (roomy-put s j p t (ok .roomy)) refl (subst (Sound F k) (sym put) snd);
     shadow = put-dirs;
     seen = subst (Seen-or F m root (view t)) (sym put) (put-seen F m root (view t) (ok .sound) s j f p new);
     exits = λ z. clash (sym z);
   }
 
   pub kept-load : flag-of p ≡ false → Kept F m root t q s j p m (put-place s j p t) hidden
-  kept-load e = kept-plain m (sound-new F m (view t) (ok .sound) s j f inside has p new (λ z. let u : false ≡ true = sym e ∙ z in clash cc))
+  kept-load e = kept-plain m (sound-new F m (view t) (ok .sound) s j f inside has p new (λ z. untrue (sym e ∙ z)))
 
   module _ (i w : ℕ) (small : i < 1024) where
     -- a directory's frame
@@ -236,18 +172,18 @@ module _ (F : Format) (m : Memory) (root : ℕ) (t : SlotTable) (q : List ℕ) (
 
     kept-directory : Kept F m root t q s j p (stored m f i w) (drop-entry f i (flag-off-at s j (put-place s j p t))) trace
     kept-directory = record {
-      fit = fit-with (stored m f i w) (drop-entry f i (flag-off-at s j (put-place s j p t)))
+      fit = refit ok (stored m f i w) (drop-entry f i (flag-off-at s j (put-place s j p t)))
           (roomy-drop f i (flag-off-at s j (put-place s j p t)) (roomy-flag-off s j (put-place s j p t) (roomy-put s j p t (ok .roomy)))) refl
           (subst (Sound F (stored m f i w)) (sym dropped-all) (sound-directory-store F m off snd f i w small));
       shadow = λ k g. (λ z. sym (sh k) ∙ z, λ z. sh k ∙ z);
       seen = subst (Seen-or F m root (view t)) (sym dropped-all)
           (seen-trans F m root (view t) off (v-drop f i off) (put-seen F m root (view t) (ok .sound) s j f (flag-off p) (new-off new))
           (seen-olds F m root off (v-drop f i off) (olds-fewer root (fewer-drop f off i))));
-      exits = λ z. let u : _≡_ {A = ℕ} 0 1 = omega arith in clash u;
+      exits = λ z. absurd (omega arith);
     }
       where
         snd : Sound F m off
-        snd = sound-new F m (view t) (ok .sound) s j f inside has (flag-off p) (new-off new) (λ z. let u : false ≡ true = sym (flag-off-off new) ∙ z in clash cc)
+        snd = sound-new F m (view t) (ok .sound) s j f inside has (flag-off p) (new-off new) (λ z. untrue (sym (flag-off-off new) ∙ z))
 
         sh : (k : ℕ) → shadow-at k (drop-entry f i (flag-off-at s j (put-place s j p t))) ≡ shadow-at k t
         sh k = ap (λ v. v .sh k) dropped-all ∙ drop-sh k
@@ -261,48 +197,25 @@ module _ (F : Format) (m : Memory) (root : ℕ) (t : SlotTable) (q : List ℕ) (
         loosened : view (set-sync k Unsynchronised (put-place s j p t)) ≡ v-put s j p loose
         loosened = view-sync k Unsynchronised (put-place s j p t) ∙ ap (v-sync k Unsynchronised) put ∙ sync-put (view t) k Unsynchronised s j p
 
-        loose-table : (n g : ℕ) (y : SyncState) → shadow-at n t ≡ Table g y → (z : SyncState) × (loose .sh n ≡ Table g z)
+        loose-alike : (n : ℕ) → Alike (loose .sh n) (shadow-at n t)
         unfolding v-sync
-        loose-table n g y e = go (eqb n k)
-          where
-            go : (b : Bool) → (z : SyncState) × (cond b (with-sync Unsynchronised (shadow-at n t)) (shadow-at n t) ≡ Table g z)
-            go true = (Unsynchronised, ap (with-sync Unsynchronised) e)
-            go false = (y, e)
-
-        loose-split : (n g : ℕ) → shadow-at n t ≡ Split g → loose .sh n ≡ Split g
-        unfolding v-sync
-        loose-split n g e = go (eqb n k)
-          where
-            go : (b : Bool) → cond b (with-sync Unsynchronised (shadow-at n t)) (shadow-at n t) ≡ Split g
-            go true = ap (with-sync Unsynchronised) e
-            go false = e
-
-        loose-dirs : (n g : ℕ) → (loose .sh n ≡ Directory g → shadow-at n t ≡ Directory g) × (shadow-at n t ≡ Directory g → loose .sh n ≡ Directory g)
-        unfolding v-sync
-        loose-dirs n g = go (eqb n k) (shadow-at n t)
-          where
-            go : (b : Bool) (x : Shadow) → (cond b (with-sync Unsynchronised x) x ≡ Directory g → x ≡ Directory g) × (x ≡ Directory g → cond b (with-sync Unsynchronised x) x ≡ Directory g)
-            go true Nothing = (λ z. z, λ z. z)
-            go true (Directory h) = (λ z. z, λ z. z)
-            go true (Table h y) = (λ z. clash cc, λ z. clash cc)
-            go true (Split h) = (λ z. z, λ z. z)
-            go false x = (λ z. z, λ z. z)
+        loose-alike n = sync-alike (eqb n k) Unsynchronised (shadow-at n t)
 
         new-loose : {x : Place} → New F m (view t) s j f x → New F m loose s j f x
-        new-loose (new-leaf {g} {y} e z) = new-leaf (loose-table s g y e .1) z
-        new-loose (new-piece {g} e z) = new-piece (loose-split s g e) z
+        new-loose (new-leaf {g} {y} e z) = new-leaf (alike-table (loose-alike s) g y e .1) z
+        new-loose (new-piece {g} e z) = new-piece (alike-split (loose-alike s) g e) z
 
         sh : (n : ℕ) → shadow-at n (set-sync k Unsynchronised (put-place s j p t)) ≡ loose .sh n
         sh n = ap (λ v. v .sh n) loosened ∙ put-sh loose s j p n
 
         kept-table : Kept F m root t q s j p (stored m f i w) (set-sync k Unsynchronised (put-place s j p t)) trace
         kept-table = record {
-          fit = fit-with (stored m f i w) (set-sync k Unsynchronised (put-place s j p t)) (roomy-sync k Unsynchronised (put-place s j p t) (roomy-put s j p t (ok .roomy))) refl
+          fit = refit ok (stored m f i w) (set-sync k Unsynchronised (put-place s j p t)) (roomy-sync k Unsynchronised (put-place s j p t) (roomy-put s j p t (ok .roomy))) refl
               (subst (Sound F (stored m f i w)) (sym loosened) (sound-store F m (v-put s j p loose) snd f i w small (λ n. ap (guards f) (put-sh loose s j p n) ∙ free n)));
-          shadow = λ n g. (λ z. loose-dirs n g .0 (sym (sh n) ∙ z), λ z. sh n ∙ loose-dirs n g .1 z);
+          shadow = λ n g. (λ z. alike-directory (alike-sym (loose-alike n)) g (sym (sh n) ∙ z), λ z. sh n ∙ alike-directory (loose-alike n) g z);
           seen = subst (Seen-or F m root (view t)) (sym loosened)
               (seen-trans F m root (view t) loose (v-put s j p loose) (sync-seen F m root (view t) (ok .sound) k f at) (put-seen F m root loose base s j f p (new-loose new)));
-          exits = λ z. let u : _≡_ {A = ℕ} 0 1 = omega arith in clash u;
+          exits = λ z. absurd (omega arith);
         }
           where
             base : Sound F m loose
@@ -322,7 +235,7 @@ module _ (F : Format) (m : Memory) (root : ℕ) (t : SlotTable) (q : List ℕ) (
         stands-table = record {
           here = ap (λ v. v .pl s j) loosened ∙ put-here loose s j p;
           others = λ n l z. ap (λ v. v .pl n l) loosened ∙ put-other loose s j p n l z ∙ loose-places n l;
-          splits = λ n g z. sh n ∙ loose-split n g z;
+          splits = λ n g z. sh n ∙ alike-split (loose-alike n) g z;
         }
 
       -- the one protected table of the frame is found
@@ -331,13 +244,13 @@ module _ (F : Format) (m : Memory) (root : ℕ) (t : SlotTable) (q : List ℕ) (
       found-table e None z =
           let k = protected-yes f (put-place s j p t) e in
           let at = protected-table f (shadow-at (k .0) (put-place s j p t)) (k .1) in
-          let u : true ≡ false = sym (ap (is-table-of f) at ∙ eq-eqb f f refl) ∙ find-none (thing.Table f) (put-place s j p t) z (k .0) in
+          let u : true ≡ false = sym (ap (is-table-of f) at ∙ table-here f Protected) ∙ find-none (thing.Table f) (put-place s j p t) z (k .0) in
           clash cc
       found-table e (Some n) z =
           let k = protected-yes f (put-place s j p t) e in
           let at = sym (put-shadow (k .0)) ∙ protected-table f (shadow-at (k .0) (put-place s j p t)) (k .1) in
           let yes-n : is-table-of f (shadow-at n t) ≡ true = ap (is-table-of f) (sym (put-shadow n)) ∙ find-some (thing.Table f) (put-place s j p t) n (roomy-put s j p t (ok .roomy)) z .0 in
-          let same-slot : k .0 ≡ n = ok .sound .unique (k .0) n (thing.Table f) (ap (is-table-of f) at ∙ eq-eqb f f refl) yes-n in
+          let same-slot : k .0 ≡ n = ok .sound .unique (k .0) n (thing.Table f) (ap (is-table-of f) at ∙ table-here f Protected) yes-n in
           let there : shadow-at n t ≡ Table f Protected = ap (λ (x : ℕ). shadow-at x t) (sym same-slot) ∙ at in
           (kept-table n there, stands-table n there)
 

@@ -1,14 +1,12 @@
 -- Finding or taking the slot of a thing keeps slots fit.
 use mathlib.Core.Path.{_≡_, refl, sym, ap, subst, _∙_}
-use mathlib.Core.Bool.{Bool, true, false, cond, not, _&&_, _||_}
-use mathlib.Core.List.{List, [], _∷_}
+use mathlib.Core.Bool.{Bool, true, false, cond, not, _&&_}
+use mathlib.Core.List.{List}
 use mathlib.Core.Logic.{_⊎_, inl, inr}
-use Prim.Native.Nat.{ℕ, _≤_, _<_}
+use Prim.Native.Nat.{ℕ, _<_}
 use native.Mathlib.Omega.{arith}
 use lib.Dec.{eqb, ltb}
-use borrow.Author.Tests.{eqb-true, eq-eqb, ltb-true}
-use lib.ListN.{getD}
-use Rattle.std.proofs.shelf.Tests.{lt-ltb}
+use Rattle.std.proofs.shelf.Tests.{and-parts, eq-eqb, lt-ltb, ltb-true, not-true}
 use Rattle.std.specs.declared.option.Option.{Option}
 use Rattle.std.specs.declared.option.Option.the-variants.{Some, None}
 use Rattle.memory.specs.Memory.{Memory, has-words}
@@ -16,54 +14,22 @@ use Rattle.paging.specs.Formats.{Format}
 use Rattle.policies.specs.Orders.{Orders-kept, Rule, first-permitted, times}
 use Rattle.policies.proofs.Naming.{names-permitted}
 use Rattle.shadow.specs.Slots.{evict, fill, find-slot, first-empty, guard, may-take, permitted, shadow-at}
-use Rattle.slot.specs.Slot.{is-directory-of, is-nothing, is-root, is-split-of, is-table-of, lags, shadow-of, shadows}
-use Rattle.slot.specs.declared.slots.Shadow.{Shadow}
+use Rattle.slot.specs.Slot.{is-directory-of, is-nothing, is-root, is-table-of, lags, shadow-of, shadows}
 use Rattle.slot.specs.declared.slots.Shadow.the-variants.{Nothing, Directory, Table, Split}
 use Rattle.shadow.specs.declared.slots.SlotTable.{SlotTable}
-use Rattle.slot.specs.declared.slots.SyncState.{SyncState}
-use Rattle.slot.specs.declared.slots.SyncState.the-variants.{Protected, Unsynchronised}
+use Rattle.slot.specs.declared.slots.SyncState.the-variants.{Unsynchronised}
 use Rattle.slot.specs.declared.slots.Thing.{Thing}
 use Rattle.slot.specs.declared.slots.Thing.the-variants as thing
 use Rattle.runs.specs.Unit.{Taken, guard-for, obtain, obtained, ready-for, resync, resync-found, room, settle-in, take-slot, taken}
-use Rattle.runs.proofs.Fewer.{Fewer, clash, fewer-evict, fewer-fill, fewer-guard, fewer-same, fewer-trans}
-use Rattle.runs.proofs.Good.{Fit}
+use Rattle.runs.proofs.Basics.{by-eq, clash, not-yes, untrue}
+use Rattle.runs.proofs.Fewer.{Fewer, fewer-evict, fewer-fill, fewer-guard, fewer-same, fewer-trans}
+use Rattle.runs.proofs.Good.{Fit, refit}
 use Rattle.runs.proofs.Places.{empty-none, empty-some, find-none, find-some, permitted-if, permitted-says, roomy-evict, roomy-fill, roomy-guard, view-evict, view-fill, view-guard}
-use Rattle.runs.proofs.Resyncs.{Resynced, Turned, resynced, turned-same}
+use Rattle.runs.proofs.Resyncs.{Turned, resynced, turned-same}
+use Rattle.runs.proofs.Shadows.{directory-here, is-directory-at, is-nothing-at, new-calm, new-directory, new-shadows, nothing-shadows, table-here}
 use Rattle.runs.proofs.Sound.{Sound}
-use Rattle.runs.proofs.Sounds.{by-eq, sound-evict, sound-fill-directory, sound-fill-split, sound-fill-table, sound-guard}
-use Rattle.runs.proofs.Views.{Roomy, View, v-evict, v-fill, v-guard, view}
-
--- TESTS OF SHADOWS
-
-pub is-directory-at : (f : ℕ) (x : Shadow) → is-directory-of f x ≡ true → x ≡ Directory f
-is-directory-at f Nothing e = clash cc
-is-directory-at f (Directory g) e = ap Directory (eqb-true g f e)
-is-directory-at f (Table g y) e = clash cc
-is-directory-at f (Split g) e = clash cc
-
-pub is-nothing-at : (x : Shadow) → is-nothing x ≡ true → x ≡ Nothing
-is-nothing-at Nothing e = refl
-is-nothing-at (Directory f) e = clash cc
-is-nothing-at (Table f y) e = clash cc
-is-nothing-at (Split f) e = clash cc
-
-pub directory-here : (f : ℕ) → is-directory-of f (Directory f) ≡ true
-directory-here f = eq-eqb f f refl
-
-pub shadows-new : (x : Thing) → shadows (shadow-of x) x ≡ true
-shadows-new (thing.Directory f) = eq-eqb f f refl
-shadows-new (thing.Table f) = eq-eqb f f refl
-shadows-new (thing.Split f) = eq-eqb f f refl
-
-pub calm-new : (x : Thing) → lags (shadow-of x) ≡ false
-calm-new (thing.Directory f) = refl
-calm-new (thing.Table f) = refl
-calm-new (thing.Split f) = refl
-
-nothing-shadows : (x : Thing) → shadows Nothing x ≡ false
-nothing-shadows (thing.Directory f) = refl
-nothing-shadows (thing.Table f) = refl
-nothing-shadows (thing.Split f) = refl
+use Rattle.runs.proofs.Sounds.{sound-evict, sound-fill-directory, sound-fill-split, sound-fill-table}
+use Rattle.runs.proofs.Views.{Roomy, v-evict, v-fill, v-guard, view}
 
 -- what is to be shadowed has words, where it copies words
 abbrev pub Has-frame : Memory → Thing → Type 0
@@ -104,16 +70,6 @@ module _ (F : Format) (R : Rule) (kept-order : Orders-kept R) (m : Memory) where
     keeps = λ root k z w. w;
   }
 
-  and-parts : (a b c : Bool) → ((a && b) && c) ≡ true → (a ≡ true) × (b ≡ true) × (c ≡ true)
-  and-parts true true true e = (refl, refl, refl)
-  and-parts true true false e = clash cc
-  and-parts true false c e = clash cc
-  and-parts false b c e = clash cc
-
-  not-true : (b : Bool) → not b ≡ true → b ≡ false
-  not-true true e = clash cc
-  not-true false e = refl
-
   -- the shadow of a slot after an eviction
   evicted-sh : (i k : ℕ) (t : SlotTable) → shadow-at k (evict i t) ≡ cond (eqb k i) Nothing (shadow-at k t)
   unfolding v-evict
@@ -136,11 +92,14 @@ module _ (F : Format) (R : Rule) (kept-order : Orders-kept R) (m : Memory) where
   }
     where
       parts : (ltb i (t .count) ≡ true) × (not (is-nothing (shadow-at i t)) ≡ true) × (not (is-root (shadow-at i t) kept) ≡ true)
-      parts = and-parts (ltb i (t .count)) (not (is-nothing (shadow-at i t))) (not (is-root (shadow-at i t) kept)) e
+      parts =
+          let z = and-parts (ltb i (t .count) && not (is-nothing (shadow-at i t))) (not (is-root (shadow-at i t) kept)) e in
+          let y = and-parts (ltb i (t .count)) (not (is-nothing (shadow-at i t))) (z .0) in
+          (y .0, y .1, z .1)
 
       back : (k : ℕ) (x : Thing) → shadows (cond (eqb k i) Nothing (shadow-at k t)) x ≡ true → shadows (shadow-at k t) x ≡ true
       back k x = by-eq k i (λ b. shadows (cond b Nothing (shadow-at k t)) x ≡ true → shadows (shadow-at k t) x ≡ true)
-          (λ p z. let u : false ≡ true = sym (nothing-shadows x) ∙ z in clash cc) (λ n z. z)
+          (λ p z. untrue (sym (nothing-shadows x) ∙ z)) (λ n z. z)
 
       stays : (root k : ℕ) → kept ≡ Some root → shadow-at k t ≡ Directory root → cond (eqb k i) Nothing (shadow-at k t) ≡ Directory root
       stays root k z w = by-eq k i (λ b. cond b Nothing (shadow-at k t) ≡ Directory root)
@@ -199,7 +158,7 @@ module _ (F : Format) (R : Rule) (kept-order : Orders-kept R) (m : Memory) where
       go None e = record {
         fit = fit;
         turned = turned-same;
-        lag = λ k z. let u : true ≡ false = sym (ap (is-table-of f) z ∙ eq-eqb f f refl) ∙ find-none (thing.Table f) t e k in clash cc;
+        lag = λ k z. let u : true ≡ false = sym (ap (is-table-of f) z ∙ table-here f Unsynchronised) ∙ find-none (thing.Table f) t e k in clash cc;
       }
       go (Some i) e =
           let a = resynced F m t q i fit in
@@ -207,7 +166,7 @@ module _ (F : Format) (R : Rule) (kept-order : Orders-kept R) (m : Memory) where
             fit = a .fit;
             turned = a .turned;
             lag = λ k z.
-                let yes-k : is-table-of f (shadow-at k (resync m i t)) ≡ true = ap (is-table-of f) z ∙ eq-eqb f f refl in
+                let yes-k : is-table-of f (shadow-at k (resync m i t)) ≡ true = ap (is-table-of f) z ∙ table-here f Unsynchronised in
                 let same : k ≡ i = fit .sound .unique k i (thing.Table f) (sym (a .turned .things k (thing.Table f)) ∙ yes-k) (find-some (thing.Table f) t i (fit .roomy) e .0) in
                 let u : true ≡ false = sym (ap lags z) ∙ ap (λ (j : ℕ). lags (shadow-at j (resync m i t))) same ∙ a .calm in
                 clash cc;
@@ -260,29 +219,14 @@ module _ (F : Format) (R : Rule) (kept-order : Orders-kept R) (m : Memory) where
         sound = subst (Sound F m) (sym is) (sound-fill-split F m (view t) (fit .sound) i e f none);
       }
 
-  not-yes : (b : Bool) → (b ≡ true → ⊥) → b ≡ false
-  not-yes true n = absurd (n refl)
-  not-yes false n = refl
-
-  new-directory : (x : Thing) (f : ℕ) → shadow-of x ≡ Directory f → x ≡ thing.Directory f
-  new-directory (thing.Directory g) f e = let z : g ≡ f = cc in ap thing.Directory z
-  new-directory (thing.Table g) f e = clash cc
-  new-directory (thing.Split g) f e = clash cc
-
   settled-got : (kept : Option ℕ) (x : Thing) (t : SlotTable) (k : Taken) → Roomed kept t k → None-of x t → Has-frame m x → Got kept x t (settle-in R m x k)
   unfolding settle-in
   settled-got kept x t k r none has =
       record {
-        fit = record {
-          roomy = z .roomy;
-          many = subst (λ (c : ℕ). 2 ≤ c) (sym count) (r .fit .many);
-          few = subst (λ (c : ℕ). c ≤ 8) (sym count) (r .fit .few);
-          ordered = λ i l. told-full (k .table) (k .order) (k .slot) (r .fit .ordered) i (subst (λ (c : ℕ). i < c) count l);
-          sound = z .sound;
-        };
+        fit = told-fit _ (k .order) (k .slot) (refit (r .fit) m _ (z .roomy) count (z .sound));
         small = r .small;
-        is = ap (λ y. shadows y x) here ∙ shadows-new x;
-        calm = ap lags here ∙ calm-new x;
+        is = ap (λ y. shadows y x) here ∙ new-shadows x;
+        calm = ap lags here ∙ new-calm x;
         fewer = fewer-trans (r .fewer) (fewer-trans (d .turned .fewer) (z .fewer));
         dirs = λ i f e. dirs i f (sym (z .shadow i) ∙ e);
         keeps = λ root i e w. z .shadow i ∙ keeps root i (r .keeps root i e w);

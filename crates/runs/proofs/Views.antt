@@ -1,7 +1,7 @@
 -- A slot table as two functions: what each slot shadows, and what stands at each place. What the calls of a slot table do to
 -- them. A place from index 1,024 on is empty.
 use mathlib.Core.Path.{_≡_}
-use mathlib.Core.Bool.{Bool, true, false, cond, _&&_}
+use mathlib.Core.Bool.{cond, _&&_}
 use Prim.Native.Nat.{ℕ, _+_, _<_}
 use lib.Dec.{eqb}
 use lib.ListN.{length, getD}
@@ -9,12 +9,12 @@ use Rattle.memory.specs.Memory.{Memory}
 use Rattle.shadow.specs.Slots.{place-at, shadow-at}
 use Rattle.slot.specs.Slot.{check-place, copies, flag-off, guard-leaf, no-slot, shadow-of, unlink-place, with-sync}
 use Rattle.slot.specs.declared.slots.Place.{Place}
-use Rattle.slot.specs.declared.slots.Place.the-variants.{Empty, Link, Leaf, Piece}
+use Rattle.slot.specs.declared.slots.Place.the-variants.{Empty}
 use Rattle.slot.specs.declared.slots.Shadow.{Shadow}
 use Rattle.slot.specs.declared.slots.Shadow.the-variants.{Nothing, Directory, Table, Split}
 use Rattle.shadow.specs.declared.slots.SlotTable.{SlotTable}
 use Rattle.slot.specs.declared.slots.SyncState.{SyncState}
-use Rattle.slot.specs.declared.slots.SyncState.the-variants.{Protected, Unsynchronised}
+use Rattle.slot.specs.declared.slots.SyncState.the-variants.{Protected}
 use Rattle.slot.specs.declared.slots.Thing.{Thing}
 use Rattle.runs.specs.Laws.{word-at}
 

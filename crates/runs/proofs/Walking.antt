@@ -1,19 +1,21 @@
--- The guest's walk over words that were only marked since they were copied.
+-- A walk over words that were only marked since they were copied goes as the copies say, and its marks settle its entries.
 use mathlib.Core.Path.{_≡_, refl, sym, ap, _∙_}
 use mathlib.Core.Bool.{Bool, true, false, cond}
-use mathlib.Core.List.{List, [], _∷_, _++_}
-use Prim.Native.Nat.{ℕ, _+_, _<_, _%_}
+use mathlib.Core.List.{List, [], _∷_}
+use Prim.Native.Nat.{ℕ, _+_, _<_}
 use native.Mathlib.Omega.{arith}
 use lib.Dec.{eqb}
-use borrow.Author.Tests.{eqb-true, eq-eqb, ne-eqb, clash}
-use Rattle.memory.specs.Memory.{Contents, Memory, words, cause, changed, has-words, stored}
+use Rattle.std.proofs.shelf.Tests.{eq-eqb, eqb-true}
+use Rattle.memory.specs.Memory.{Contents, Memory, words, cause, has-words}
 use Rattle.paging.specs.Formats.{Format, Laws-of-marking}
 use Rattle.paging.specs.Terms.{because-absent, because-denied, because-malformed, directory-level, is-absent, is-page, is-table, table-level}
-use Rattle.walk.specs.Marking.{Write, due, mark-at, mark-of, put, put-all}
+use Rattle.walk.specs.Marking.{Write, due, mark-at, mark-of, put-all}
 use Rattle.walk.specs.Walk.{Asked, Failure, Seen, Spot, arrive, at-page, at-table, by-directory, by-table, directory-index, fails, faulted, in-directory, in-table, reached, seen, spot, table-index, walk-from}
 use Rattle.runs.specs.Laws.{below-directory, fault, guest-walk, root-read, table-read, to, with-marks, word-at, word-in, words-read}
+use Rattle.runs.proofs.Basics.{clash, untrue}
+use Rattle.runs.proofs.Memories.{put-all-append, raises-mark, raises-refl, raises-trans, small-append, word-stored-same}
 use Rattle.runs.proofs.Moments.{Small-writes}
-use Rattle.runs.proofs.Sound.{Leads, Pages, Raises, Up, named, same, more}
+use Rattle.runs.proofs.Sound.{Leads, Pages, Raises, Up, more, named, same}
 
 -- the directory's word for an address, the frame that it names, and a table's word; where the two words stand
 abbrev pub upper : Asked → Memory → ℕ → ℕ
@@ -71,23 +73,23 @@ module _ (F : Format) (laws : Laws-of-marking F) where
 module _ (F : Format) (a : Asked) (m : Memory) where
   root-known : (s : Spot) (x : Contents) → has-words x ≡ true → in-directory F a m s x ≡ by-directory F a m (seen s (word-in x (s .index))) (F .reads directory-level (word-in x (s .index)))
   root-known s (words w) e = refl
-  root-known s (cause c) e = absurd (clash e)
+  root-known s (cause c) e = untrue e
 
   table-known : (d : Seen) (s : Spot) (x : Contents) → has-words x ≡ true → in-table F a m d s x ≡ by-table F a m d (seen s (word-in x (s .index))) (F .reads table-level (word-in x (s .index)))
   table-known d s (words w) e = refl
-  table-known d s (cause c) e = absurd (clash e)
+  table-known d s (cause c) e = untrue e
 
   target-known : (f : ℕ) (es : List Seen) (x : Contents) → has-words x ≡ true → arrive F a m f es x ≡ reached f es
   target-known f es (words w) e = refl
-  target-known f es (cause c) e = absurd (clash e)
+  target-known f es (cause c) e = untrue e
 
   root-words : (root : ℕ) (x : Contents) → has-words x ≡ true → root-read F a root m x ≡ record { frame = root; index = directory-index (a .address) } ∷ below-directory a m (F .reads directory-level (word-in x (directory-index (a .address))))
   root-words root (words w) e = refl
-  root-words root (cause c) e = absurd (clash e)
+  root-words root (cause c) e = untrue e
 
   table-words : (f i : ℕ) (x : Contents) → has-words x ≡ true → table-read f i x ≡ record { frame = f; index = i } ∷ []
   table-words f i (words w) e = refl
-  table-words f i (cause c) e = absurd (clash e)
+  table-words f i (cause c) e = untrue e
 
 -- a settled entry is not written
 unmarked : (F : Format) (k : ℕ) (s : Spot) (x : Contents) → F .marks (s .level) k (word-in x (s .index)) ≡ word-in x (s .index) → mark-of F k s x ≡ []
@@ -173,7 +175,7 @@ pub data Arrived (F : Format) (a : Asked) (m : Memory) (root : ℕ) : ℕ → Li
       → Arrived F a m root f (seen (root-spot a root) (upper a m root) ∷ seen (table-spot a (below F a m root)) (lower a m (below F a m root)) ∷ [])
 
 not-reached : {A : Type 0} {x : Failure} {f : ℕ} {es : List Seen} → faulted x ≡ reached f es → A
-not-reached e = let z : _≡_ {A = ℕ} 0 1 = cc in absurd (omega arith)
+not-reached e = clash cc
 
 module _ (F : Format) (a : Asked) (m : Memory) (root : ℕ) where
   moved : {g f : ℕ} {es qs : List Seen} → reached g es ≡ reached f qs → Arrived F a m root g es → Arrived F a m root f qs
@@ -228,114 +230,52 @@ module _ (F : Format) (a : Asked) (m : Memory) (root : ℕ) where
           directory-arrives rooted _ _ _ refl refl refl (sym (root-known F a m (root-spot a root) (m root) rooted) ∙ q)
       go (cause c) i e = not-reached e
 
--- MEMORY AFTER A WRITE
-
-pub has-stored : (m : Memory) (f i v g : ℕ) → has-words (stored m f i v g) ≡ has-words (m g)
-has-stored m f i v g = go (eqb g f) (m g)
-  where
-    go : (b : Bool) (x : Contents) → has-words (cond b (changed x i v) x) ≡ has-words x
-    go true (words w) = refl
-    go true (cause c) = refl
-    go false x = refl
-
-pub word-stored-same : (m : Memory) (f i v : ℕ) → has-words (m f) ≡ true → word-at (stored m f i v) f i ≡ v
-word-stored-same m f i v h = rw (eq-eqb f f refl) (go (m f) h)
-  where
-    go : (x : Contents) → has-words x ≡ true → word-in (changed x i v) i ≡ v
-    go (words w) e = rw (eq-eqb (i % 1024) (i % 1024) refl)
-    go (cause c) e = absurd (clash e)
-
-pub word-stored-other : (m : Memory) (f i v g j : ℕ) → i < 1024 → j < 1024 → ((g ≡ f) × (j ≡ i) → ⊥) → word-at (stored m f i v) g j ≡ word-at m g j
-word-stored-other m f i v g j hi hj n = go (eqb g f) refl (m g)
-  where
-    go : (b : Bool) → eqb g f ≡ b → (x : Contents) → word-in (cond b (changed x i v) x) j ≡ word-in x j
-    go true e (words w) =
-        let apart : j % 1024 ≡ i % 1024 → ⊥ = λ q. n (eqb-true g f e, omega arith) in
-        rw (ne-eqb (j % 1024) (i % 1024) apart)
-    go true e (cause c) = refl
-    go false e x = refl
-
 -- MEMORY AFTER MARKS
-
-pub put-all-append : (m : Memory) (xs ys : List Write) → put-all m (xs ++ ys) ≡ put-all (put-all m xs) ys
-put-all-append m [] ys = refl
-put-all-append m (x ∷ xs) ys = put-all-append (put m x) xs ys
 
 -- the entries read stand at indices of frames
 abbrev pub Small-spots : List Seen → Type 0
 Small-spots [] = Unit {0}
 Small-spots (e ∷ es) = (e .spot .index < 1024) × Small-spots es
 
-pub small-append : (xs ys : List Write) → Small-writes xs → Small-writes ys → Small-writes (xs ++ ys)
-small-append [] ys p q = q
-small-append (x ∷ xs) ys p q = (p .0, small-append xs ys (p .1) q)
+module _ (F : Format) (k : ℕ) where
+  -- a mark is written, or the entry has none or is settled
+  pub data Marked (m : Memory) (s : Spot) : List Write → Type 0 where
+    settled : (has-words (m (s .frame)) ≡ true → F .marks (s .level) k (word-at m (s .frame) (s .index)) ≡ word-at m (s .frame) (s .index)) → Marked m s []
+    written : Marked m s (record { frame = s .frame; index = s .index; word = F .marks (s .level) k (word-at m (s .frame) (s .index)) } ∷ [])
 
-module _ (F : Format) where
-  pub up-trans : {u v w : ℕ} → Up F u v → Up F v w → Up F u w
-  up-trans p same = p
-  up-trans p (more l k q) = more l k (up-trans p q)
-
-  pub raises-refl : (m : Memory) → Raises F m m
-  raises-refl m = record { has = λ f. refl; up = λ f i h. same }
-
-  pub raises-trans : {m n o : Memory} → Raises F m n → Raises F n o → Raises F m o
-  raises-trans p q = record { has = λ f. q .has f ∙ p .has f; up = λ f i h. up-trans (p .up f i h) (q .up f i h) }
-
-  pub raises-mark : (m : Memory) (f i l k : ℕ) → i < 1024 → Raises F m (stored m f i (F .marks l k (word-at m f i)))
-  raises-mark m f i l k hi = record { has = has-stored m f i (F .marks l k (word-at m f i)); up = λ g j hj. go g j hj (eqb g f) refl (m g) refl }
+  pub marked : (m : Memory) (s : Spot) → Marked m s (mark-at F k m s)
+  marked m s = go (m (s .frame)) refl
     where
-      at : (g j : ℕ) (b : Bool) → (b ≡ true → word-at m f i ≡ word-at m g j) → Up F (word-at m g j) (cond b (F .marks l k (word-at m f i)) (word-at m g j))
-      at g j true e = rw (e refl) (more l k same)
-      at g j false e = same
+      by : (w : ℕ) → word-at m (s .frame) (s .index) ≡ w → (b : Bool) → eqb (F .marks (s .level) k w) w ≡ b → Marked m s (cond b [] (record { frame = s .frame; index = s .index; word = F .marks (s .level) k w } ∷ []))
+      by w e true q = let q′ : F .marks (s .level) k w ≡ w = eqb-true (F .marks (s .level) k w) w q in settled (λ h. rw e q′)
+      by w e false q = rw (← e) written
 
-      go : (g j : ℕ) → j < 1024 → (b : Bool) → eqb g f ≡ b → (x : Contents) → m g ≡ x → Up F (word-in x j) (word-in (cond b (changed x i (F .marks l k (word-at m f i))) x) j)
-      go g j hj true e (words w) q = rw q at (at g j (eqb (j % 1024) (i % 1024)) (λ z.
-          let index : j % 1024 ≡ i % 1024 = eqb-true (j % 1024) (i % 1024) z in
-          let both : j ≡ i = omega arith in
-          let frame : g ≡ f = eqb-true g f e in
-          cc))
-      go g j hj true e (cause c) q = same
-      go g j hj false e x q = same
+      go : (x : Contents) → m (s .frame) ≡ x → Marked m s (mark-of F k s x)
+      go (words w) e = by (w (s .index)) (rw e) (eqb (F .marks (s .level) k (w (s .index))) (w (s .index))) refl
+      go (cause c) e = settled (λ h. untrue (rw e at h))
 
-  module _ (k : ℕ) where
-    -- a mark is written, or the entry has none or is settled
-    pub data Marked (m : Memory) (s : Spot) : List Write → Type 0 where
-      settled : (has-words (m (s .frame)) ≡ true → F .marks (s .level) k (word-at m (s .frame) (s .index)) ≡ word-at m (s .frame) (s .index)) → Marked m s []
-      written : Marked m s (record { frame = s .frame; index = s .index; word = F .marks (s .level) k (word-at m (s .frame) (s .index)) } ∷ [])
+  raises-by : (m : Memory) (s : Spot) (xs : List Write) → s .index < 1024 → Marked m s xs → Raises F m (put-all m xs)
+  raises-by m s xs h (settled e) = raises-refl F m
+  raises-by m s xs h written = raises-mark F m (s .frame) (s .index) (s .level) k h
 
-    pub marked : (m : Memory) (s : Spot) → Marked m s (mark-at F k m s)
-    marked m s = go (m (s .frame)) refl
-      where
-        by : (w : ℕ) → word-at m (s .frame) (s .index) ≡ w → (b : Bool) → eqb (F .marks (s .level) k w) w ≡ b → Marked m s (cond b [] (record { frame = s .frame; index = s .index; word = F .marks (s .level) k w } ∷ []))
-        by w e true q = let q′ : F .marks (s .level) k w ≡ w = eqb-true (F .marks (s .level) k w) w q in settled (λ h. rw e q′)
-        by w e false q = rw (← e) written
+  small-by : (m : Memory) (s : Spot) (xs : List Write) → s .index < 1024 → Marked m s xs → Small-writes xs
+  small-by m s xs h (settled e) = tt
+  small-by m s xs h written = (h, tt)
 
-        go : (x : Contents) → m (s .frame) ≡ x → Marked m s (mark-of F k s x)
-        go (words w) e = by (w (s .index)) (rw e) (eqb (F .marks (s .level) k (w (s .index))) (w (s .index))) refl
-        go (cause c) e = settled (λ h. absurd (clash (rw e at h)))
+  word-by : (m : Memory) (s : Spot) (xs : List Write) → has-words (m (s .frame)) ≡ true → Marked m s xs → word-at (put-all m xs) (s .frame) (s .index) ≡ F .marks (s .level) k (word-at m (s .frame) (s .index))
+  word-by m s xs h (settled e) = sym (e h)
+  word-by m s xs h written = word-stored-same m (s .frame) (s .index) _ h
 
-    raises-by : (m : Memory) (s : Spot) (xs : List Write) → s .index < 1024 → Marked m s xs → Raises F m (put-all m xs)
-    raises-by m s xs h (settled e) = raises-refl m
-    raises-by m s xs h written = raises-mark m (s .frame) (s .index) (s .level) k h
+  -- marks only mark
+  pub raises-spots : (m : Memory) (es : List Seen) → Small-spots es → Raises F m (put-all m (due F k m es))
+  raises-spots m [] h = raises-refl F m
+  raises-spots m (e ∷ es) h =
+      rw (put-all-append m (mark-at F k m (e .spot)) (due F k (put-all m (mark-at F k m (e .spot))) es))
+      (raises-trans F (raises-by m (e .spot) _ (h .0) (marked m (e .spot))) (raises-spots (put-all m (mark-at F k m (e .spot))) es (h .1)))
 
-    small-by : (m : Memory) (s : Spot) (xs : List Write) → s .index < 1024 → Marked m s xs → Small-writes xs
-    small-by m s xs h (settled e) = tt
-    small-by m s xs h written = (h, tt)
-
-    word-by : (m : Memory) (s : Spot) (xs : List Write) → has-words (m (s .frame)) ≡ true → Marked m s xs → word-at (put-all m xs) (s .frame) (s .index) ≡ F .marks (s .level) k (word-at m (s .frame) (s .index))
-    word-by m s xs h (settled e) = sym (e h)
-    word-by m s xs h written = word-stored-same m (s .frame) (s .index) _ h
-
-    -- marks only mark
-    pub raises-spots : (m : Memory) (es : List Seen) → Small-spots es → Raises F m (put-all m (due F k m es))
-    raises-spots m [] h = raises-refl m
-    raises-spots m (e ∷ es) h =
-        rw (put-all-append m (mark-at F k m (e .spot)) (due F k (put-all m (mark-at F k m (e .spot))) es))
-        (raises-trans (raises-by m (e .spot) _ (h .0) (marked m (e .spot))) (raises-spots (put-all m (mark-at F k m (e .spot))) es (h .1)))
-
-    pub small-spots : (m : Memory) (es : List Seen) → Small-spots es → Small-writes (due F k m es)
-    small-spots m [] h = tt
-    small-spots m (e ∷ es) h = small-append _ _ (small-by m (e .spot) _ (h .0) (marked m (e .spot))) (small-spots (put-all m (mark-at F k m (e .spot))) es (h .1))
+  pub small-spots : (m : Memory) (es : List Seen) → Small-spots es → Small-writes (due F k m es)
+  small-spots m [] h = tt
+  small-spots m (e ∷ es) h = small-append _ _ (small-by m (e .spot) _ (h .0) (marked m (e .spot))) (small-spots (put-all m (mark-at F k m (e .spot))) es (h .1))
 
 arrived-spots : {F : Format} {a : Asked} {m : Memory} {root f : ℕ} {es : List Seen} → Arrived F a m root f es → Small-spots es
 arrived-spots {a = a} (large hr l t ok h) = (omega arith, tt)
@@ -381,9 +321,3 @@ module _ (F : Format) (laws : Laws-of-marking F) where
       settled-first (a .kind) m (seen (root-spot a root) (upper a m root)) (seen (table-spot a g) (lower a m g) ∷ []) rooted (omega arith, (omega arith, tt)),
       settled-second (a .kind) m (seen (root-spot a root) (upper a m root)) (seen (table-spot a g) (lower a m g)) [] h (omega arith, (omega arith, tt)),
     )
-
-  -- the root's entry, in both cases
-  pub settled-root : {a : Asked} {m : Memory} {root f : ℕ} {es : List Seen} → Arrived F a m root f es
-      → F .marks directory-level (a .kind) (upper a (put-all m (due F (a .kind) m es)) root) ≡ upper a (put-all m (due F (a .kind) m es)) root
-  settled-root {a} {m} {root} (large hr l t ok h) = settled-large a m root hr
-  settled-root {a} {m} {root} (small hr l t hg p ok h) = settled-small a m root hr _ hg .0

@@ -23,7 +23,7 @@ use Rattle.runs.specs.Runs.{Adds-up, Refusals-keep, Run, Runs-lawful, Tallies-
 use Rattle.runs.specs.Terms.{Call, Reply, Tallies, access, close-run, closed, deliver, done, flush, flush-all, flush-page, give-up, hidden, no-exit, open-run, poke, refused, set-mode, switch, switch-root, through, trace, true-exit}
 use Rattle.runs.specs.Terms as reply
 use Rattle.runs.specs.Unit.{Ended, Running, State, Traced, access-by, access-ends, asked-in, call-limit, counted, hit-target, in-run, is-pending, no-tallies, opened-at, opened-with, out-of-run, refuse, step, step-in, store-traced, switch-ends, traced, unless-full, unless-pending, walk-ends}
-use Rattle.runs.proofs.Fewer.{clash}
+use Rattle.runs.proofs.Basics.{clash}
 use Rattle.runs.proofs.RunsGood.{law-of}
 
 -- WHAT A CALL CAN END IN
