@@ -26,11 +26,12 @@ use Rattle.slot.specs.declared.slots.SyncState.the-variants.{Unsynchronised}
 use Rattle.slot.specs.declared.slots.Thing.{Thing}
 use Rattle.slot.specs.declared.slots.Thing.the-variants as thing
 use Rattle.runs.specs.Histories.{Event, History, Opening, Sometime, covers, earlier, failed, flushed-all, flushed-page, marks-in, memory-at, mode-at, moded, root-at, settled, store-of, stores-in, switched, went}
-use Rattle.runs.specs.Laws.{Lawful-answer, Lawful-fault, Lawful-reply, Recent, after-access, after-call, asked-now, fault, guest-walk, just}
+use Rattle.runs.specs.Laws.{after-access, after-call, asked-now, fault, guest-walk, just, Lawful-answer, Lawful-fault, Lawful-reply, Recent, Tallied}
 use Rattle.runs.specs.Laws as laws-of
 use Rattle.runs.specs.Terms.{Call, access, close-run, deliver, flush, flush-all, flush-page, give-up, open-run, page-of, poke, set-mode, switch-root}
 use Rattle.runs.specs.Unit.{Ended, Hart, Running, State, Taken, access-by, access-ends, asked-in, call-limit, count-in, drop-below, drop-page, hit-answer, hit-target, in-run, is-pending, obtain, refuse, resync-all, root-slot, switch-ends, unless-full, unless-pending, walk-ends}
 use Rattle.runs.proofs.Basics.{clash, elim-eq, untrue}
+use Rattle.runs.proofs.Counting.{tallied-more, tallied-still}
 use Rattle.runs.proofs.Fewer.{Fewer, fewer-empty, fewer-same}
 use Rattle.runs.proofs.Good.{Fit, Good, Past, Then, refit}
 use Rattle.runs.proofs.HitLaws.{hit-lawful}
@@ -97,15 +98,16 @@ module _ (F : Format) (laws : Laws-of-marking F) (R : Rule) (kept-order : Orders
         (λ e. sound-store F m (view (r .table)) (good .fit .sound) f (word-index (a .address)) w (word-index-small (a .address)) (store-free a f (eqb-true (a .kind) store e) hit))
         (λ e. good .fit .sound)
 
-    hit-good : (a : Asked) (w f : ℕ) (q : List ℕ) (g : Hart) → g .root ≡ root → g .mode ≡ r .hart .mode → Fit F m (r .table) q → hit-target F a root (r .table) ≡ Some f → Hit F a (r .table) I f
+    hit-good : (a : Asked) (w f : ℕ) (q : List ℕ) (g : Hart) → g .root ≡ root → g .mode ≡ r .hart .mode → Tallied (went a w (hit-answer a w m f) ∷ h) (g .tallies) → Fit F m (r .table) q → hit-target F a root (r .table) ≡ Some f → Hit F a (r .table) I f
         → Good F o (went a w (hit-answer a w m f) ∷ h) (record { table = r .table; order = q; hart = g })
-    hit-good a w f q g re me fit hits hit = record {
+    hit-good a w f q g re me tallied fit hits hit = record {
       root = re ∙ good .root;
       mode = me ∙ good .mode;
       fit = refit fit _ (r .table) (fit .roomy) refl (hit-sound a w f hit);
       rooted = subst (λ (n : ℕ). shadow-at (root-slot n (r .table)) (r .table) ≡ Directory n) (sym re) (good .rooted);
       were = λ i k e never. good .were i k e (never .1);
       raised = (raises-refl F m, tt, good .raised);
+      tallied = tallied;
       bounded = good .bounded;
       past = subst (λ (n : ℕ). Past F o (went a w (hit-answer a w m f) ∷ h) n (view (r .table))) (sym re) (λ i b u k x y c z e l lag leaf. earlier refl (good .past i b u k x y c z e l lag leaf));
       ready = subst (λ (n : ℕ). (b : Asked) → Recent o (b .kind) (page-of (b .address)) (b .privilege) (went a w (hit-answer a w m f) ∷ h) → isSome (hit-target F b n (r .table)) ≡ true) (sym re) ready;
@@ -119,16 +121,17 @@ module _ (F : Format) (laws : Laws-of-marking F) (R : Rule) (kept-order : Orders
 
     -- an event that writes nothing, covers nothing and leaves the root
     still-good : (e : Event) (g : Hart) → marks-in e ≡ [] → stores-in e ≡ [] → ((p : ℕ) → covers e p ≡ false) → root-at o (e ∷ h) ≡ root-at o h
-        → g .root ≡ root → g .mode ≡ mode-at o (e ∷ h)
+        → g .root ≡ root → g .mode ≡ mode-at o (e ∷ h) → Tallied (e ∷ h) (g .tallies)
         → ((b : Asked) → Recent o (b .kind) (page-of (b .address)) (b .privilege) (e ∷ h) → isSome (hit-target F b root (r .table)) ≡ true)
         → Good F o (e ∷ h) (record { table = r .table; order = r .order; hart = g })
-    still-good e g marks stores cover root-same re me ready = record {
+    still-good e g marks stores cover root-same re me tallied ready = record {
       root = re ∙ good .root ∙ sym root-same;
       mode = me;
       fit = subst (λ n. Fit F n (r .table) (r .order)) (sym same-memory) (good .fit);
       rooted = subst (λ (n : ℕ). shadow-at (root-slot n (r .table)) (r .table) ≡ Directory n) (sym re) (good .rooted);
       were = λ i k z never. good .were i k z (never .1);
       raised = (subst (λ xs. Raises F m (put-all m xs)) (sym marks) (raises-refl F m), subst Small-writes (sym marks) tt, good .raised);
+      tallied = tallied;
       bounded = good .bounded;
       past = subst (λ (n : ℕ). Past F o (e ∷ h) n (view (r .table))) (sym re) (λ i b u k x y c z q l lag leaf. earlier (cover (page-of b)) (good .past i b u k x y c z q l lag leaf));
       ready = subst (λ (n : ℕ). (b : Asked) → Recent o (b .kind) (page-of (b .address)) (b .privilege) (e ∷ h) → isSome (hit-target F b n (r .table)) ≡ true) (sym re) ready;
@@ -169,7 +172,7 @@ module _ (F : Format) (laws : Laws-of-marking F) (R : Rule) (kept-order : Orders
     )
     walk-fine a w privilege none (faulted x) e = (
       fault-lawful a x privilege none e,
-      λ k z. goes-on _ _ _ refl (still-good (failed a x) _ refl refl (λ p. refl) refl refl (good .mode) (fault-ready a x)) k z,
+      λ k z. goes-on _ _ _ refl (still-good (failed a x) _ refl refl (λ p. refl) refl refl (good .mode) (tallied-more (failed a x) 0 h (r .hart .tallies) refl (good .tallied)) (fault-ready a x)) k z,
     )
 
     access-fine : (a : Asked) (w : ℕ) → a .privilege ≡ mode-at o h → Fine-access a w (access-ends R F s r a w)
@@ -180,7 +183,7 @@ module _ (F : Format) (laws : Laws-of-marking F) (R : Rule) (kept-order : Orders
         go (Some f) e =
             let hit = target-hit F a root (r .table) f e in (
               hit-lawful F laws o h r good a w f privilege hit,
-              λ k z. goes-on _ _ _ refl (hit-good a w f _ _ refl refl (told-fit F R kept-order m (r .table) _ _ (told-fit F R kept-order m (r .table) _ _ (good .fit))) e hit) k z,
+              λ k z. goes-on _ _ _ refl (hit-good a w f _ _ refl refl (tallied-more (went a w (hit-answer a w m f)) 0 h (r .hart .tallies) refl (good .tallied)) (told-fit F R kept-order m (r .table) _ _ (told-fit F R kept-order m (r .table) _ _ (good .fit))) e hit) k z,
             )
         go None e = walk-fine a w privilege e (walk-from F a m root) refl
 
@@ -220,6 +223,7 @@ module _ (F : Format) (laws : Laws-of-marking F) (R : Rule) (kept-order : Orders
       rooted = ap (λ (i : ℕ). shadow-at i (resync-all m (r .table))) (root-slot-is F m (resync-all m (r .table)) (r .order) all-fit root I at) ∙ at;
       were = λ i k e never. good .were i k (dir-kept (resync-all m (r .table)) (all-turned .things) i k .0 e) (never .1);
       raised = (raises-refl F m, tt, good .raised);
+      tallied = tallied-more flushed-all 0 h (r .hart .tallies) refl (good .tallied);
       bounded = good .bounded;
       past = λ i b u k x y c z e l lag leaf. lag-clash (resync-all m (r .table)) (all-calm F m (r .table) (r .order) (good .fit)) k x lag;
       ready = λ b z. flush-silent b z;
@@ -282,6 +286,7 @@ module _ (F : Format) (laws : Laws-of-marking F) (R : Rule) (kept-order : Orders
       rooted = ap (λ (i : ℕ). shadow-at i (drop-page root a (r .table))) slot-now ∙ at;
       were = λ i k e never. good .were i k (sym (d .shadow i) ∙ e) (never .1);
       raised = (raises-refl F m, tt, good .raised);
+      tallied = tallied-more (flushed-page a) 0 h (r .hart .tallies) refl (good .tallied);
       bounded = good .bounded;
       past = λ i b u k x y c z e l lag leaf. ⊎-elim (λ q. absurd (covered i b u k y c z q e l leaf)) (λ q. uncovered i b u k x y c z q e l lag leaf) (cases-eq (page-of a) (page-of b));
       ready = λ b z. page-silent a b z;
@@ -317,8 +322,8 @@ module _ (F : Format) (laws : Laws-of-marking F) (R : Rule) (kept-order : Orders
     abbrev T : ℕ → Taken
     T f = obtain R m None (thing.Directory f) (resync-all m (r .table)) (r .order)
 
-    switch-good : (f : ℕ) → has-words (m f) ≡ true → (g : Hart) → g .root ≡ f → g .mode ≡ r .hart .mode → Good F o (switched f ∷ h) (record { table = T f .table; order = T f .order; hart = g })
-    switch-good f has g re me = record {
+    switch-good : (f : ℕ) → has-words (m f) ≡ true → (g : Hart) → g .root ≡ f → g .mode ≡ r .hart .mode → Tallied (switched f ∷ h) (g .tallies) → Good F o (switched f ∷ h) (record { table = T f .table; order = T f .order; hart = g })
+    switch-good f has g re me tallied = record {
       root = re;
       mode = me ∙ good .mode;
       fit = k .fit;
@@ -328,6 +333,7 @@ module _ (F : Format) (laws : Laws-of-marking F) (R : Rule) (kept-order : Orders
           (λ z. let u : f ≡ n = cc in never .0 u)
           (k .dirs i n e);
       raised = (raises-refl F m, tt, good .raised);
+      tallied = tallied;
       bounded = good .bounded;
       past = λ i b u s x y c z e l lag leaf. lag-clash (resync-all m (r .table)) (all-calm F m (r .table) (r .order) (good .fit)) s x (k .fewer .lagging s x lag);
       ready = λ b z. switch-silent f b z;
@@ -384,20 +390,20 @@ module _ (F : Format) (laws : Laws-of-marking F) (R : Rule) (kept-order : Orders
     call-fine (open-run f k) = refused-fine (open-run f k) 1
     call-fine (access k a w) =
         full-fine (access k a w) _ (either-fine (access k a w) (eqb (a % 4) 0) _ (refuse s 5) (λ z. call-access k a w) (λ z. refused-fine (access k a w) 5))
-    call-fine flush-all = full-fine flush-all _ (tt, λ k z. goes-on _ _ _ refl flush-good k z)
-    call-fine (flush-page a) = full-fine (flush-page a) _ (tt, λ k z. goes-on _ _ _ refl (page-good a) k z)
+    call-fine flush-all = full-fine flush-all _ (refl, λ k z. goes-on _ _ _ refl flush-good k z)
+    call-fine (flush-page a) = full-fine (flush-page a) _ (refl, λ k z. goes-on _ _ _ refl (page-good a) k z)
     call-fine (switch-root f) =
         full-fine (switch-root f) _ (either-fine (switch-root f) (has-words (m f)) _ (refuse s 3) (λ z. switched-fine f z) (λ z. refused-fine (switch-root f) 3))
       where
         switched-fine : (f : ℕ) → has-words (m f) ≡ true → Fine (switch-root f) (switch-ends R s r f)
-        switched-fine f has = unfold switch-ends in (tt, λ k z. goes-on _ _ _ refl (switch-good f has _ refl refl) k z)
+        switched-fine f has = unfold switch-ends in (refl, λ k z. goes-on _ _ _ refl (switch-good f has _ refl refl (tallied-more (switched f) _ h (r .hart .tallies) refl (good .tallied))) k z)
     call-fine (set-mode p) =
-        pending-fine (set-mode p) _ (tt, λ k z. goes-on _ _ _ refl (still-good (moded p) _ refl refl (λ n. refl) refl refl refl (mode-ready p)) k z)
+        pending-fine (set-mode p) _ (refl, λ k z. goes-on _ _ _ refl (still-good (moded p) _ refl refl (λ n. refl) refl refl refl (tallied-still (moded p) h (r .hart .tallies) refl (good .tallied)) (mode-ready p)) k z)
     call-fine (deliver x) =
         either-fine (deliver x) (is-pending x (r .hart .pending)) _ (refuse s 10)
-        (λ z. (tt, λ k e. goes-on _ _ _ refl (still-good settled _ refl refl (λ n. refl) refl refl (good .mode) settled-ready) k e)) (λ z. refused-fine (deliver x) 10)
+        (λ z. (refl, λ k e. goes-on _ _ _ refl (still-good settled _ refl refl (λ n. refl) refl refl (good .mode) (tallied-still settled h (r .hart .tallies) refl (good .tallied)) settled-ready) k e)) (λ z. refused-fine (deliver x) 10)
     call-fine (give-up x) =
         either-fine (give-up x) (is-pending x (r .hart .pending)) _ (refuse s 10)
-        (λ z. (tt, λ k e. goes-on _ _ _ refl (still-good settled _ refl refl (λ n. refl) refl refl (good .mode) settled-ready) k e)) (λ z. refused-fine (give-up x) 10)
-    call-fine close-run = pending-fine close-run _ (tt, λ k z. clash cc)
+        (λ z. (refl, λ k e. goes-on _ _ _ refl (still-good settled _ refl refl (λ n. refl) refl refl (good .mode) (tallied-still settled h (r .hart .tallies) refl (good .tallied)) settled-ready) k e)) (λ z. refused-fine (give-up x) 10)
+    call-fine close-run = pending-fine close-run _ (good .tallied, λ k z. clash cc)
     call-fine (poke f i w) = refused-fine (poke f i w) 1

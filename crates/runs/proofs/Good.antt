@@ -15,7 +15,7 @@ use Rattle.shadow.specs.declared.slots.SlotTable.{SlotTable}
 use Rattle.slot.specs.declared.slots.SyncState.the-variants.{Unsynchronised}
 use Rattle.walk.specs.Walk.{Asked, directory-index, table-index}
 use Rattle.runs.specs.Histories.{History, Never-root, Opening, Sometime, memory-at, mode-at, root-at}
-use Rattle.runs.specs.Laws.{Recent, word-at}
+use Rattle.runs.specs.Laws.{Recent, Tallied, word-at}
 use Rattle.runs.specs.Runs.{Bounded}
 use Rattle.runs.specs.Terms.{page-of}
 use Rattle.runs.specs.Unit.{Running, hit-target, root-slot}
@@ -62,5 +62,6 @@ pub record Good (F : Format) (o : Opening) (h : History) (r : Running) : Type 0 
   pub raised : Raised F o h
   pub bounded : Bounded (o .memory)
   pub past : Past F o h (r .hart .root) (view (r .table))
+  pub tallied : Tallied h (r .hart .tallies)
   -- an access like a recent one hits
   pub ready : (a : Asked) → Recent o (a .kind) (page-of (a .address)) (a .privilege) h → isSome (hit-target F a (r .hart .root) (r .table)) ≡ true

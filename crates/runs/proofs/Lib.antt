@@ -1,5 +1,6 @@
 mod Basics
 mod Calls
+mod Counting
 mod Fewer
 mod Good
 mod HitLaws

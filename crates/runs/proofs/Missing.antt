@@ -33,6 +33,7 @@ use Rattle.runs.specs.Runs.{Bounded}
 use Rattle.runs.specs.Terms.{Through, hidden, page-of}
 use Rattle.runs.specs.Unit.{Running, Taken, Traced, count-in, hit-by, hit-target, linked, new-place, root-slot, store-traced, tell-path, traced, value-of}
 use Rattle.runs.proofs.Basics.{clash, elim-eq, untrue}
+use Rattle.runs.proofs.Counting.{tallied-more}
 use Rattle.runs.proofs.Good.{Fit, Good, Past, Then, refit}
 use Rattle.runs.proofs.Hitting.{large-hits, leaf-hit, own-flag, piece-hit, small-hits}
 use Rattle.runs.proofs.Linking.{Linked-up, linked-up}
@@ -323,6 +324,7 @@ module _ (F : Format) (laws : Laws-of-marking F) (R : Rule) (kept-order : Orders
     rooted = ap (λ (i : ℕ). shadow-at i (z .table)) slot-now ∙ dir-now;
     were = λ i g e never. good .were i g (dirs-were i g e) (never .1);
     raised = (raise, small-due way, good .raised);
+    tallied = tallied-more (went a w x) (K .evicted) h (r .hart .tallies) refl (good .tallied);
     bounded = good .bounded;
     past = past-now;
     ready = ready-now;

@@ -1,15 +1,16 @@
 -- Every run is good, from its opening on, and so every call answers by the laws.
 use mathlib.Core.Path.{_≡_, refl, sym, ap, ap₂, subst, _∙_}
-use mathlib.Core.Bool.{true}
+use mathlib.Core.Bool.{Bool, true, false, cond, _||_}
 use mathlib.Core.List.{[]}
 use mathlib.Core.Logic.{⊎-elim}
 use Prim.Native.Nat.{ℕ, zero, suc, _+_, _≤_, _<_}
 use native.Mathlib.Omega.{arith}
 use Rattle.std.proofs.shelf.Tests.{cases-eq, eq-eqb, ne-eqb}
+use lib.Dec.{ltb}
 use Rattle.std.specs.Options.{isSome}
 use Rattle.std.specs.declared.option.Option.{Option}
 use Rattle.std.specs.declared.option.Option.the-variants.{Some, None}
-use Rattle.memory.specs.Memory.{Memory, has-words}
+use Rattle.memory.specs.Memory.{Memory, has-words, stored}
 use Rattle.paging.specs.Formats.{Format, Laws-of-marking}
 use Rattle.paging.specs.Terms.{supervisor}
 use Rattle.policies.specs.Orders.{Orders-kept, Rule, numbered, rising, times}
@@ -19,11 +20,12 @@ use Rattle.slot.specs.declared.slots.Place.the-variants.{Empty, Link, Leaf, Pie
 use Rattle.slot.specs.declared.slots.Shadow.the-variants.{Nothing, Directory}
 use Rattle.slot.specs.declared.slots.Thing.the-variants as thing
 use Rattle.runs.specs.Histories.{History, Opening, memory-at}
-use Rattle.runs.specs.Laws.{Lawful-reply, Recent, after-call}
+use Rattle.runs.specs.Laws.{Done-by, Lawful-reply, Recent, after-call}
 use Rattle.runs.specs.Runs.{Bounded, Calls-lawful, Run, goes, opened}
-use Rattle.runs.specs.Terms.{Call, access, close-run, deliver, flush-all, flush-page, give-up, open-run, poke, set-mode, switch-root}
-use Rattle.runs.specs.Unit.{Running, State, Taken, no-tallies, opened-at, step, step-in, take-slot}
+use Rattle.runs.specs.Terms.{Call, access, close-run, deliver, done, flush-all, flush-page, give-up, no-exit, open-run, poke, set-mode, switch-root}
+use Rattle.runs.specs.Unit.{Ended, Running, State, Taken, no-tallies, opened-at, refuse, step, step-in, take-slot}
 use Rattle.runs.proofs.Basics.{clash, untrue}
+use Rattle.runs.proofs.Counting.{tallied-none}
 use Rattle.runs.proofs.Calls.{call-fine}
 use Rattle.runs.proofs.Good.{Fit, Good}
 use Rattle.runs.proofs.Missing.{root-slot-is}
@@ -99,6 +101,7 @@ module _ (F : Format) (laws : Laws-of-marking F) (R : Rule) (kept-order : Orders
             rooted = ap (λ (i : ℕ). shadow-at i (K .table)) (root-slot-is F (o .memory) (K .table) (K .order) (first .fit) root (K .slot) at) ∙ at;
             were = λ i f z never. ⊎-elim (λ q. let c : Nothing ≡ Directory f = sym (fresh-shadow i n) ∙ q in clash cc) (λ q. let c : root ≡ f = cc in never c) (first .dirs i f z);
             raised = tt;
+            tallied = tallied-none;
             bounded = bounded;
             past = λ i b w s f x c z q link lag leaf. let c : Empty ≡ Link w s = sym (fresh-place i _ n) ∙ first .fewer .links i _ w s link in clash cc;
             ready = λ a z. silent _ _ _ z;
@@ -136,8 +139,12 @@ module _ (F : Format) (laws : Laws-of-marking F) (R : Rule) (kept-order : Orders
       go (Some r) q = step-next h s c (good-run run) (ap isSome q) .0
       go None q = subst (λ (y : Option Running). Lawful-reply F o h c (step-in R F s c y .reply)) (sym q) (closed-lawful s c)
         where
+          either : (b : Bool) (x y : Ended) → Done-by no-exit (x .reply) → Done-by no-exit (y .reply) → Done-by no-exit (cond b x y .reply)
+          either true x y p q = p
+          either false x y p q = q
+
           closed-lawful : (s : State) (c : Call) → Lawful-reply F o h c (step-in R F s c None .reply)
-          closed-lawful s (open-run f n) = tt
+          closed-lawful s (open-run f n) = either (ltb n 2 || ltb 8 n) (refuse s 4) _ tt (either (has-words (s .memory f)) (record { reply = done no-exit; next = opened-at R (s .memory) f n }) (refuse s 3) refl tt)
           closed-lawful s (access k a w) = tt
           closed-lawful s flush-all = tt
           closed-lawful s (flush-page a) = tt
@@ -146,7 +153,8 @@ module _ (F : Format) (laws : Laws-of-marking F) (R : Rule) (kept-order : Orders
           closed-lawful s (deliver x) = tt
           closed-lawful s (give-up x) = tt
           closed-lawful s close-run = tt
-          closed-lawful s (poke f i w) = tt
+          closed-lawful s (poke f i w) =
+              either (ltb 1023 i) (refuse s 8) _ tt (either (has-words (s .memory f)) (record { reply = done no-exit; next = record { memory = stored (s .memory) f i w; run = None } }) (refuse s 3) refl tt)
 
 pub calls-lawful : (F : Format) → Laws-of-marking F → (R : Rule) → Orders-kept R → Calls-lawful F R
 calls-lawful F laws R kept s c = record { law = λ o h run. law-of F laws R kept o h s c run; on = λ o h run e. goes run c e }

@@ -2,7 +2,7 @@
 use mathlib.Core.Path.{_≡_}
 use mathlib.Core.Bool.{Bool, true, false, cond, _&&_, _||_}
 use mathlib.Core.List.{List, [], _∷_, _++_}
-use Prim.Native.Nat.{ℕ}
+use Prim.Native.Nat.{ℕ, _+_}
 use lib.Dec.{eqb}
 use Rattle.memory.specs.Memory.{Memory}
 use Rattle.paging.specs.Terms.{store, supervisor}
@@ -68,6 +68,26 @@ exit-of (flushed-page a) = flush
 exit-of (switched r) = switch
 exit-of (moded p) = no-exit
 exit-of settled = no-exit
+
+-- is an event a counted call: an access, a flush or a switch?
+abbrev pub counts : Event → Bool
+counts (went a w r) = true
+counts (failed a f) = true
+counts flushed-all = true
+counts (flushed-page a) = true
+counts (switched r) = true
+counts (moded p) = false
+counts settled = false
+
+-- the counted calls of a history
+abbrev pub calls-in : History → ℕ
+calls-in [] = 0
+calls-in (e ∷ h) = calls-in h + cond (counts e) 1 0
+
+-- those of them with an exit of kind x
+abbrev pub exits-in : ℕ → History → ℕ
+exits-in x [] = 0
+exits-in x (e ∷ h) = exits-in x h + cond (counts e && eqb (exit-of e) x) 1 0
 
 -- the root that an event leaves in force
 abbrev pub root-by : Event → ℕ → ℕ

@@ -10,8 +10,8 @@ use Rattle.paging.specs.Formats.{Format}
 use Rattle.paging.specs.Terms.{directory-level, is-absent, is-table, store}
 use Rattle.walk.specs.Marking.{Write, due}
 use Rattle.walk.specs.Walk.{Asked, Failure, Outcome, directory-index, faulted, reached, table-index, walk-from, word-index}
-use Rattle.runs.specs.Histories.{Event, History, Never-root, Opening, Sometime, exit-of, failed, flushed-all, flushed-page, marks-in, memory-at, mode-at, moded, root-at, settled, stored-since, stores-in, switched, went}
-use Rattle.runs.specs.Terms.{Call, Reply, Through, access, close-run, closed, deliver, done, flush-all, flush-page, give-up, no-exit, open-run, page-of, poke, refused, set-mode, switch-root, through}
+use Rattle.runs.specs.Histories.{Event, History, Never-root, Opening, Sometime, calls-in, exit-of, exits-in, failed, flushed-all, flushed-page, marks-in, memory-at, mode-at, moded, root-at, settled, stored-since, stores-in, switched, went}
+use Rattle.runs.specs.Terms.{Call, Reply, Tallies, Through, access, close-run, closed, deliver, done, flush, flush-all, flush-page, give-up, hidden, no-exit, open-run, page-of, poke, refused, set-mode, switch, switch-root, through, trace, true-exit}
 use Rattle.runs.specs.Terms as reply
 
 -- What the guest's own walk answers: the target with the marks due, or the fault.
@@ -77,10 +77,28 @@ pub data Recent (o : Opening) (k p v : ℕ) : History → Type 0 where
   just : {a : Asked} {w : ℕ} {r : Through} {h : History} → a .kind ≡ k → page-of (a .address) ≡ p → a .privilege ≡ v → (k ≡ store → Never-root o (r .target) h) → Recent o k p v (went a w r ∷ h)
   since : {e : Event} {h : History} → exit-of e ≡ no-exit → Recent o k p v h → Recent o k p v (e ∷ h)
 
--- the writes that an access makes before it reads its word
+-- were any marks written?
 abbrev pub Marked-any : List Write → Type 0
 Marked-any [] = ⊥
 Marked-any (x ∷ xs) = Unit {0}
+
+-- Tallies that count what a history holds. (That of evictions counts what no answer tells.)
+pub record Tallied (h : History) (t : Tallies) : Type 0 where
+  pub calls : t .calls ≡ calls-in h
+  pub hits : t .hits ≡ exits-in no-exit h
+  pub hidden : t .hidden ≡ exits-in hidden h
+  pub true-exits : t .true-exits ≡ exits-in true-exit h
+  pub trace : t .trace ≡ exits-in trace h
+  pub flush : t .flush ≡ exits-in flush h
+  pub switch : t .switch ≡ exits-in switch h
+
+-- Any call but an access and a close is refused, or done with its own exit.
+abbrev pub Done-by : ℕ → Reply → Type 0
+Done-by e (refused n) = Unit {0}
+Done-by e (through r) = ⊥
+Done-by e (reply.faulted x) = ⊥
+Done-by e (done x) = x ≡ e
+Done-by e (closed t) = ⊥
 
 module _ (F : Format) (o : Opening) (h : History) where
   -- the walk of an access by the root in force, at a moment, and over memory as the access starts
@@ -117,30 +135,38 @@ module _ (F : Format) (o : Opening) (h : History) where
     -- a fault has an exit, so none comes to an access like a recent one
     pub exit : Recent o (a .kind) (page-of (a .address)) (a .privilege) h → ⊥
 
-  -- What is answered to an access, after history h.
+  -- What is answered to an access, after history h: a refusal, or an answer by the laws.
   abbrev pub Lawful-answer : Asked → Reply → Type 0
   Lawful-answer a (refused n) = Unit {0}
   Lawful-answer a (through r) = Lawful-through a r
   Lawful-answer a (reply.faulted x) = Lawful-fault a x
-  Lawful-answer a (done e) = Unit {0}
-  Lawful-answer a (closed t) = Unit {0}
+  Lawful-answer a (done e) = ⊥
+  Lawful-answer a (closed t) = ⊥
 
   -- an access is made at the privilege in force
   abbrev pub asked-now : ℕ → ℕ → Asked
   asked-now k a = record { address = a; kind = k; privilege = mode-at o h }
 
-  -- What is answered to a call, after history h: the laws speak of accesses.
+  -- Closing is refused, or answers the tallies of what was answered in the run.
+  abbrev pub Lawful-close : Reply → Type 0
+  Lawful-close (refused n) = Unit {0}
+  Lawful-close (through r) = ⊥
+  Lawful-close (reply.faulted x) = ⊥
+  Lawful-close (done e) = ⊥
+  Lawful-close (closed t) = Tallied h t
+
+  -- What is answered to a call, after history h.
   abbrev pub Lawful-reply : Call → Reply → Type 0
-  Lawful-reply (open-run f n) r = Unit {0}
+  Lawful-reply (open-run f n) r = Done-by no-exit r
   Lawful-reply (access k a w) r = Lawful-answer (asked-now k a) r
-  Lawful-reply flush-all r = Unit {0}
-  Lawful-reply (flush-page a) r = Unit {0}
-  Lawful-reply (switch-root f) r = Unit {0}
-  Lawful-reply (set-mode p) r = Unit {0}
-  Lawful-reply (deliver x) r = Unit {0}
-  Lawful-reply (give-up x) r = Unit {0}
-  Lawful-reply close-run r = Unit {0}
-  Lawful-reply (poke f i w) r = Unit {0}
+  Lawful-reply flush-all r = Done-by flush r
+  Lawful-reply (flush-page a) r = Done-by flush r
+  Lawful-reply (switch-root f) r = Done-by switch r
+  Lawful-reply (set-mode p) r = Done-by no-exit r
+  Lawful-reply (deliver x) r = Done-by no-exit r
+  Lawful-reply (give-up x) r = Done-by no-exit r
+  Lawful-reply close-run r = Lawful-close r
+  Lawful-reply (poke f i w) r = Done-by no-exit r
 
 -- A history with what came of one more call. A refused call leaves it as it was.
 abbrev pub after-access : Asked → ℕ → History → Reply → History
