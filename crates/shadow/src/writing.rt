@@ -97,6 +97,13 @@ impl SlotTable {
         self.put(i, j, Place::Piece { writable });
     }
 
+    /// Empties place j of slot i.
+    pub fn empty_place(&mut self, i: SlotNumber, j: usize)
+        ensures { λ _. ⌜ now (self .exit) ≡ put-place i j Place.Empty (now (self .entry)) ⌝ }
+    {
+        self.put(i, j, Place::Empty);
+    }
+
     /// Takes the flag off the leaf or piece at place j of slot i.
     pub fn flag_off(&mut self, i: SlotNumber, j: usize)
         ensures { λ _. ⌜ now (self .exit) ≡ flag-off-at i j (now (self .entry)) ⌝ }

@@ -1,0 +1,3 @@
+//! Tests of the shadow MMU.
+#[cfg(test)]
+mod scenes;
