@@ -1,4 +1,5 @@
 //! What the machine does once a call is accepted.
+#![tactic(auto)]
 pub mod accesses;
 pub mod engine;
 pub mod flushing;

@@ -1,4 +1,5 @@
 //! Tests of guest memory, page formats and the walk.
+#![tactic(auto)]
 #[cfg(test)]
 mod entries;
 #[cfg(test)]

@@ -1,3 +1,4 @@
 //! Answering an access from what the slots hold.
+#![tactic(auto)]
 pub mod hits;
 pub mod looking;

@@ -1,3 +1,4 @@
 //! Tests of the shadow MMU.
+#![tactic(auto)]
 #[cfg(test)]
 mod scenes;

@@ -1,4 +1,6 @@
 //! Page formats: how an entry reads, what it allows, how it is marked, and the codes of faults.
+#![tactic(auto)]
+
 pub mod access;
 mod bits;
 pub mod format;

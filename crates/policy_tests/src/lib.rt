@@ -1,4 +1,5 @@
 //! Tests of the eviction policies.
+#![tactic(auto)]
 #[cfg(test)]
 mod scenes;
 #[cfg(test)]

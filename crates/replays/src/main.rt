@@ -10,6 +10,7 @@
 //! - `record`, `peek FRAME INDEX`, `sum`: print the fault record, a word, a sum over all words of memory;
 //! - `run ROOT SLOTS`: the calls up to `ran` are one whole run, made as a list. In there also stand `deliver FAULT` and
 //!   `give FAULT`, where a fault is ADDRESS REASON LEVEL FRAME INDEX CODE CAUSE.
+#![tactic(auto)]
 mod replay;
 mod script;
 mod text;

@@ -1,4 +1,5 @@
 //! Tests of the slot table and of the rule of hits.
+#![tactic(auto)]
 #[cfg(test)]
 mod changes;
 #[cfg(test)]

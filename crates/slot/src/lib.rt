@@ -1,4 +1,6 @@
 //! One slot of a shadow page table: what it shadows, and its copies of the guest's entries.
+#![tactic(auto)]
+
 pub mod bounds;
 pub mod checking;
 pub mod evicting;

@@ -1,4 +1,5 @@
 //! Tests of the machine's public calls.
+#![tactic(auto)]
 #[cfg(test)]
 mod evictions;
 #[cfg(test)]

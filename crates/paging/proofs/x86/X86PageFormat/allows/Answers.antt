@@ -11,7 +11,7 @@ returns-then-not-word-allows c =
 
 pub loop-word-preserved : goal.loop-word-preserved
 loop-word-preserved c =
-    c.loop-word.invariant ∙ allow_step c.args.words.now _ _ _ _ c.loop-word-test.true c.if-not-word-allows.ensures
+    c.loop-word.invariant ∙ allow_step c.args.words.now _ _ _ _ c.loop-word-test.true c.if-not-word_allows.ensures
 
 pub returns : goal.returns
 returns c =

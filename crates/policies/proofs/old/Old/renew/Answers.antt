@@ -1,5 +1,5 @@
 use Rattle.std.proofs.Common.{◌≡◌, length, take, sym, ap, ◌∙◌, subst, rules}
-use native.Mathlib.Nat.{sub_zero}
+use native.Mathlib.Nat.{sub-zero}
 use Rattle.std.proofs.lemmas.List.{take_at}
 use Rattle.policies.specs.Orders.{moved_last, Small}
 use Rattle.policies.proofs.Places.{small_append, small_drop, small_last, small_take}
@@ -21,7 +21,7 @@ pub returns : goal.returns
 returns c =
     let all = c.args.self.now.slots in
     let n = c.args.self.now.count in
-    let long : length c.move-last.new.order ≡ n = search rules in
-    take_at c.move-last.new.order _ n long
-    ∙ c.move-last.ensures
-    ∙ ap (λ k. moved_last c.args.slot (take k all)) (sub_zero n)
+    let long : length c.move_last.new.order ≡ n = search rules in
+    take_at c.move_last.new.order _ n long
+    ∙ c.move_last.ensures
+    ∙ ap (λ k. moved_last c.args.slot (take k all)) (sub-zero n)

@@ -6,7 +6,7 @@ use Rattle.policies.proofs.old.aging.move_last.Goals as goal
 
 pub returns-then-order-place : goal.returns-then-order-place
 returns-then-order-place c =
-    c.put-last.ensures
+    c.put_last.ensures
     ∙ last_here c.loop-place.order c.loop-place.place c.args.slot (omega arith) c.if-order-place.true
     ∙ sym c.loop-place.invariant.1
 
