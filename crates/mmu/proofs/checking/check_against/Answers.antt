@@ -5,4 +5,4 @@ use Rattle.mmu.proofs.checking.check_against.Goals as goal
 
 pub returns : goal.returns
 unfolding checked_against
-returns g c = c.check-table.ensures ∙ ap (λ ws. check_table c.args.slot ws c.args.table.now) c.frame-words-words.ensures
+returns g c = c.check_table.ensures ∙ ap (λ ws. check_table c.args.slot ws c.args.table.now) c.frame_words-words.ensures

@@ -4,4 +4,4 @@ use Rattle.mmu.proofs.checking.resync.Goals as goal
 
 pub returns : goal.returns
 unfolding resync checked_against
-returns g c = c.check-lagging.ensures
+returns g c = c.check_lagging.ensures

@@ -3,4 +3,4 @@ use Rattle.engine.proofs.engine.Engine.switch.Goals as goal
 
 pub returns : goal.returns
 unfolding switch_ends
-returns g c = c.switch-to.ensures
+returns g c = c.switch_to.ensures

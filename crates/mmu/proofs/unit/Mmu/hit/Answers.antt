@@ -3,4 +3,4 @@ use Rattle.mmu.proofs.unit.Mmu.hit.Goals as goal
 
 pub returns : goal.returns
 unfolding hit_target
-returns g c = c.hit-in.ensures
+returns g c = c.hit_in.ensures

@@ -3,4 +3,4 @@ use Rattle.mmu.proofs.unit.Mmu.link.Goals as goal
 
 pub returns : goal.returns
 unfolding linked
-returns g c = c.link-below.ensures
+returns g c = c.link_below.ensures

@@ -3,4 +3,4 @@ use Rattle.mmu.proofs.unit.Mmu.take.Goals as goal
 
 pub returns : goal.returns
 unfolding take_slot
-returns g c = c.settle-anew.ensures
+returns g c = c.settle_anew.ensures

@@ -5,9 +5,9 @@ use Rattle.paging.specs.X86.{x86_allows}
 use Rattle.paging.specs.X86Laws.{allow_step}
 use Rattle.paging.proofs.x86.X86PageFormat.allows.Goals as goal
 
-pub returns-then-not-word-allows : goal.returns-then-not-word-allows
-returns-then-not-word-allows c =
-    sym (c.loop-word.invariant ∙ allow_step c.args.words.now _ _ _ _ c.loop-word-test.true c.if-not-word-allows.ensures)
+pub returns-then-not-word_allows : goal.returns-then-not-word_allows
+returns-then-not-word_allows c =
+    sym (c.loop-word.invariant ∙ allow_step c.args.words.now _ _ _ _ c.loop-word-test.true c.if-not-word_allows.ensures)
 
 pub loop-word-preserved : goal.loop-word-preserved
 loop-word-preserved c =

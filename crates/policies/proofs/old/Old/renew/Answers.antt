@@ -5,17 +5,15 @@ use Rattle.policies.specs.Orders.{moved_last, Small}
 use Rattle.policies.proofs.Places.{small_append, small_drop, small_last, small_take}
 use Rattle.policies.proofs.old.Old.renew.Goals as goal
 
-pub invariant-of-self : goal.invariant-of-self
-invariant-of-self c =
-    let all = c.args.self.now.slots in (
-      c.args.self.now.few,
-      (
-        small_append c.move-last.new.order _
-            (subst Small (sym c.move-last.ensures) (small_last c.args.slot _ (small_take _ all c.args.self.now.small)))
-            (small_drop _ all c.args.self.now.small),
-        tt,
-      ),
-    )
+pub invariant_of-self : goal.invariant_of-self
+invariant_of-self c =
+    let all = c.args.self.now.slots in record {
+      few = c.args.self.now.few;
+      small =
+          small_append c.move_last.new.order _
+          (subst Small (sym c.move_last.ensures) (small_last c.args.slot _ (small_take _ all c.args.self.now.small)))
+          (small_drop _ all c.args.self.now.small);
+    }
 
 pub returns : goal.returns
 returns c =

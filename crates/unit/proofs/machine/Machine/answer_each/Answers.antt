@@ -7,12 +7,12 @@ pub loop-call-preserved : goal.loop-call-preserved
 loop-call-preserved g c = (
   omega arith,
   omega arith,
-  goes_on _ _ _ _ _ _ _ _ _ _ FlushAll _ c.loop-call-test.true c.apply-reply.ensures.is c.push-reserved.ensures.items c.loop-call.invariant.2 (open_if _ _ ∙ c.if-not-self.false),
+  goes_on _ _ _ _ _ _ _ _ _ _ FlushAll _ c.loop-call-test.true c.apply-reply.ensures.is c.push_reserved.ensures.items c.loop-call.invariant.2 (open_if _ _ ∙ c.if-not-self.false),
 )
 
 pub returns-then-not-self : goal.returns-then-not-self
 returns-then-not-self g c =
-    let over = closes _ _ _ _ _ _ _ _ _ _ FlushAll _ c.loop-call-test.true c.apply-reply.ensures.is c.push-reserved.ensures.items c.loop-call.invariant.2 (open_if _ _ ∙ c.if-not-self.true) in
+    let over = closes _ _ _ _ _ _ _ _ _ _ FlushAll _ c.loop-call-test.true c.apply-reply.ensures.is c.push_reserved.ensures.items c.loop-call.invariant.2 (open_if _ _ ∙ c.if-not-self.true) in
     record { answers = over.answers; leaves = over.leaves }
 
 pub returns : goal.returns
