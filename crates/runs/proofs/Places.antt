@@ -1,7 +1,7 @@
 -- What the calls of a slot table do to its slots and places, as the views say it, and what its searches find.
 use Rattle.std.proofs.Common.{◌≡◌, ℕ, zero, suc, ◌+◌, ◌-◌, ◌<◌, ◌≤◌, Bool, true, false, cond, ◌&&◌, eqb, ltb, leb, ◌⊎◌, List, [], ◌∷◌, map, length, get_or, set, replicate, is_some, Some, None, Option, sym, refl, ap, ◌∙◌, subst, inl, inr, arith, length-set}
 use lib.ListN
-use lib.ListN.{get_or_replicate, length_map, length_replicate}
+use lib.ListN.{get_or-replicate, length-map, length-replicate}
 use Rattle.std.proofs.lemmas.List.{get_or-map, get_or_past, get_or-set_other, get_or-set_same}
 use Rattle.std.proofs.lemmas.Bool.{and_from, and_parts, cases_eq, cases_lt, eq-eqb, le-leb, leb-true, lt-ltb, ltb-true, ne_eqb}
 use Rattle.std.proofs.lemmas.Bool.Decides.{nat_tests}
@@ -306,7 +306,7 @@ view_put i j p t r small low = same_view (view (put_place i j p t)) (v_put i j p
 -- every slot keeps as many places as it has
 roomy_all : (g : Slot → Slot) (t : SlotTable) → g no_slot ≡ no_slot → ((s : Slot) → length (g s).places ≡ length s.places) → Roomy t → Roomy (change_all g t)
 roomy_all g t same keeps r = record {
-  slots = length_map t.slots g ∙ r.slots;
+  slots = length-map t.slots g ∙ r.slots;
   places = λ k h.
       ap (λ (s : Slot). length (get_or (map g t.slots) k s).places) (sym same)
       ∙ ap (λ (s : Slot). length s.places) (ListN.get_or-map g t.slots k no_slot)
@@ -332,23 +332,23 @@ roomy_guard f t = roomy_all (guard_slot f) t refl (λ s. keeps s s.shadow)
     keeps : (s : Slot) (x : Shadow) → length (guard_as f s x).places ≡ length s.places
     keeps s Nothing = refl
     keeps s (Directory g) = refl
-    keeps s (Table g y) = length_map s.places (guard_leaf f)
+    keeps s (Table g y) = length-map s.places (guard_leaf f)
     keeps s (Split g) = elim (in_split f g) as (λ b. length (cond b (change_place (f - g) flag_off s) s).places ≡ length s.places) [
       | true ↦ length-set s.places (f - g) (flag_off (get_or s.places (f - g) Empty))
       | false ↦ refl
     ]
 
 pub roomy_evict : (i : ℕ) (t : SlotTable) → Roomy t → Roomy (evict i t)
-roomy_evict i t r = roomy_slot i (λ s. bare Nothing) (change_all (unlink_slot i) t) (λ s e. length_replicate 1024 Empty) (roomy_all (unlink_slot i) t refl (λ s. keeps s s.shadow) r)
+roomy_evict i t r = roomy_slot i (λ s. bare Nothing) (change_all (unlink_slot i) t) (λ s e. length-replicate 1024 Empty) (roomy_all (unlink_slot i) t refl (λ s. keeps s s.shadow) r)
   where
     keeps : (s : Slot) (x : Shadow) → length (unlink_as i s x).places ≡ length s.places
     keeps s Nothing = refl
-    keeps s (Directory g) = length_map s.places (unlink_place i)
+    keeps s (Directory g) = length-map s.places (unlink_place i)
     keeps s (Table g y) = refl
     keeps s (Split g) = refl
 
 pub roomy_fill : (i : ℕ) (x : Thing) (t : SlotTable) → Roomy t → Roomy (fill i x t)
-roomy_fill i x t = roomy_slot i (λ s. bare (shadow_of x)) t (λ s e. length_replicate 1024 Empty)
+roomy_fill i x t = roomy_slot i (λ s. bare (shadow_of x)) t (λ s e. length-replicate 1024 Empty)
 
 pub roomy_put : (i j : ℕ) (p : Place) (t : SlotTable) → Roomy t → Roomy (put_place i j p t)
 roomy_put i j p t = roomy_place i j (λ q. p) t
@@ -391,8 +391,8 @@ roomy_resync m i t r = elim (lags (shadow_at i t)) as (λ b. Roomy (cond b (chec
 
 pub roomy_fresh : (n : ℕ) → Roomy (fresh n)
 roomy_fresh n = record {
-  slots = length_replicate 8 (bare Nothing);
-  places = λ i h. ap (λ (s : Slot). length s.places) (get_or_replicate 8 i (bare Nothing) no_slot h) ∙ length_replicate 1024 Empty;
+  slots = length-replicate 8 (bare Nothing);
+  places = λ i h. ap (λ (s : Slot). length s.places) (get_or-replicate 8 i (bare Nothing) no_slot h) ∙ length-replicate 1024 Empty;
 }
 
 -- COUNTS
@@ -459,7 +459,7 @@ module _ (i n : ℕ) where
   fresh_at P y z = go (cases_lt i 8)
     where
       go : (i < 8) ⊎ (8 ≤ i) → P (get_or (fresh n).slots i no_slot)
-      go (inl h) = subst P (sym (get_or_replicate 8 i (bare Nothing) no_slot h)) y
+      go (inl h) = subst P (sym (get_or-replicate 8 i (bare Nothing) no_slot h)) y
       go (inr h) = subst P (sym (get_or_past (replicate 8 (bare Nothing)) i no_slot h)) z
 
   pub fresh_shadow : shadow_at i (fresh n) ≡ Nothing

@@ -1,5 +1,6 @@
 //! The walk of a guest's page tables, and the marks that it leaves.
 #![tactic(auto)]
+
 pub mod fault;
 pub mod marking;
 pub mod path;
