@@ -1,5 +1,6 @@
 //! What the machine does once a call is accepted.
 #![tactic(auto)]
+
 pub mod accesses;
 pub mod engine;
 pub mod flushing;

@@ -1,5 +1,6 @@
 //! A shadow MMU: what it does to its slots, asking guest memory and the eviction policy.
 #![tactic(auto)]
+
 pub mod checking;
 pub mod exits;
 pub mod linking;
