@@ -1,5 +1,6 @@
 //! Walks accesses through the page tables of small guest memories, and prints where each comes out.
 #![tactic(auto)]
+
 mod guests;
 mod report;
 

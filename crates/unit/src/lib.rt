@@ -1,5 +1,6 @@
 //! The machine: every call that users make, with tokens for runs and faults, and whole runs.
 #![tactic(auto)]
+
 pub mod accesses;
 pub mod answers;
 pub mod faults;

@@ -1,5 +1,6 @@
 //! Runs small guests over shadow page tables, and prints each call with its answer and its exit, and the report of each run.
 #![tactic(auto)]
+
 mod scenes;
 mod text;
 
