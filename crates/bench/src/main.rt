@@ -1,5 +1,6 @@
 //! Runs fixed workloads over the machine and prints the figures of each: `bench ROUNDS [WORKLOAD [SLOTS [TIMES]]]`.
 #![tactic(auto)]
+
 mod figures;
 mod guest;
 mod workloads;

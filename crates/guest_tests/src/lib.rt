@@ -1,5 +1,6 @@
 //! Tests of guest memory, page formats and the walk.
 #![tactic(auto)]
+
 #[cfg(test)]
 mod entries;
 #[cfg(test)]

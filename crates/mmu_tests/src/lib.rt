@@ -1,4 +1,5 @@
 //! Tests of the shadow MMU.
 #![tactic(auto)]
+
 #[cfg(test)]
 mod scenes;

@@ -1,6 +1,5 @@
 -- Eight entries, worked out by the definitions.
-use Rattle.std.specs.Prelude.{◌≡◌, ℕ}
-use Rattle.paging.specs.Formats.{Format}
+use Rattle.std.specs.Prelude.{◌≡◌}
 use Rattle.paging.specs.Sv32.{sv32}
 use Rattle.paging.specs.Terms.{absent, because_absent, because_denied, because_malformed, directory_level, load, malformed, page, store, supervisor, table, table_level, user}
 use Rattle.paging.specs.X86.{x86}

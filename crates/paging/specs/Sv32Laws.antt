@@ -1,10 +1,10 @@
 -- The laws of Sv32: marks are bits 6 and 7 of a page's word, and no page is read or allowed by them.
-use Rattle.std.specs.Prelude.{◌≡◌, ℕ, ◌/◌, ◌%◌, Bool, true, false, cond, ◌&&◌, List, [], ◌∷◌, ◌++◌, length, ◌==◌, bit_or, slice_index_or, refl}
+use Rattle.std.specs.Prelude.{◌≡◌, ℕ, ◌/◌, ◌%◌, Bool, true, false, cond, ◌&&◌, List, [], ◌∷◌, length, ◌==◌, bit_or, slice_index_or, refl}
 use Rattle.std.proofs.Common.{sym, ap, ◌∙◌, arith}
 use Rattle.std.specs.Int.Bits.{or_zero_r}
 use Rattle.std.proofs.lemmas.Bool.Decides.{nat_tests}
 use Rattle.paging.specs.Formats.{ReadingKept, RightsKept}
-use Rattle.paging.specs.Sv32.{leaf, right, side, sv32, sv32_allows, sv32_marks, sv32_reads}
+use Rattle.paging.specs.Sv32.{leaf, right, side, sv32, sv32_marks, sv32_reads}
 use Rattle.paging.specs.Terms.{is_page, store}
 use Rattle.paging.specs.Marks.{bit_kept, high_kept}
 use Rattle.paging.specs.Words.{page_after}

@@ -1,11 +1,11 @@
 -- The laws of x86: marks are bits 5 and 6, and no entry is read or allowed by them.
-use Rattle.std.specs.Prelude.{◌≡◌, ℕ, ◌+◌, ◌/◌, ◌%◌, ◌<◌, Bool, true, false, cond, ◌&&◌, List, [], ◌∷◌, ◌++◌, length, drop, ◌==◌, bit_or, slice_index, refl}
+use Rattle.std.specs.Prelude.{◌≡◌, ℕ, ◌+◌, ◌/◌, ◌%◌, ◌<◌, Bool, true, false, cond, ◌&&◌, List, [], ◌∷◌, length, drop, ◌==◌, bit_or, slice_index, refl}
 use Rattle.std.proofs.Common.{sym, ap, ◌∙◌, arith}
 use Rattle.std.proofs.lemmas.List.{drop_more}
 use Rattle.memory.specs.Answers.{Answer}
 use Rattle.paging.specs.Formats.{ReadingKept, RightsKept}
 use Rattle.paging.specs.Terms.{is_page, is_table, store}
-use Rattle.paging.specs.X86.{word_allows, x86, x86_allows, x86_due, x86_marks, x86_reads}
+use Rattle.paging.specs.X86.{word_allows, x86, x86_allows, x86_due, x86_reads}
 use Rattle.paging.specs.Marks.{bit_kept, high_kept}
 
 -- a mask of marks: nothing below bit 5, nothing above bit 6

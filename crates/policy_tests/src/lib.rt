@@ -1,5 +1,6 @@
 //! Tests of the eviction policies.
 #![tactic(auto)]
+
 #[cfg(test)]
 mod scenes;
 #[cfg(test)]

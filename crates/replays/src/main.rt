@@ -11,6 +11,7 @@
 //! - `run ROOT SLOTS`: the calls up to `ran` are one whole run, made as a list. In there also stand `deliver FAULT` and
 //!   `give FAULT`, where a fault is ADDRESS REASON LEVEL FRAME INDEX CODE CAUSE.
 #![tactic(auto)]
+
 mod replay;
 mod script;
 mod text;

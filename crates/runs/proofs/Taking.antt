@@ -7,7 +7,7 @@ use Rattle.policies.specs.Orders.{OrdersKept, Rule, first_permitted, times}
 use Rattle.policies.proofs.Naming.{names_permitted}
 use Rattle.shadow.specs.Slots.{evict, fill, find_slot, first_empty, guard, may_take, permitted, shadow_at}
 use Rattle.slot.specs.Slot.{is_directory_of, is_nothing, is_root, is_table_of, lags, shadow_of, shadows}
-use Rattle.slot.specs.declared.slots.Shadow.TheVariants.{Nothing, Directory, Table, Split}
+use Rattle.slot.specs.declared.slots.Shadow.TheVariants.{Nothing, Directory, Table}
 use Rattle.shadow.specs.declared.slots.SlotTable.{SlotTable}
 use Rattle.slot.specs.declared.slots.SyncState.TheVariants.{Unsynchronised}
 use Rattle.slot.specs.declared.slots.Thing.{Thing}

@@ -1,19 +1,18 @@
 -- What holds of whole runs: their law, their tallies, and that refusals change nothing.
-use Rattle.std.proofs.Common.{◌≡◌, ℕ, zero, suc, ◌+◌, ◌%◌, ◌<◌, ◌≤◌, Bool, true, false, cond, eqb, ltb, leb, ◌⊎◌, List, [], ◌∷◌, is_some, Some, None, Option, sym, refl, ap, ◌∙◌, subst, inl, inr, ⊎_elim, arith}
+use Rattle.std.proofs.Common.{◌≡◌, ℕ, zero, suc, ◌%◌, ◌<◌, Bool, true, false, cond, eqb, ltb, leb, ◌⊎◌, List, [], ◌∷◌, is_some, Some, None, Option, sym, refl, ap, ◌∙◌, subst, inl, inr, ⊎_elim, arith}
 use Rattle.memory.specs.Memory.{has_words, stored}
 use Rattle.paging.specs.Formats.{Format, LawsOfMarking}
 use Rattle.paging.specs.Terms.{store}
 use Rattle.policies.specs.Orders.{OrdersKept, Rule}
-use Rattle.walk.specs.Marking.{put_all}
 use Rattle.walk.specs.Walk.{Asked, Outcome, faulted, reached, table_index, walk_from, word_index}
 use Rattle.shadow.specs.Slots.{is_directory, is_protected}
 use Rattle.shadow.specs.declared.slots.SlotTable.{SlotTable}
-use Rattle.runs.specs.Histories.{History, Opening, memory_at}
+use Rattle.runs.specs.Histories.{History, Opening}
 use Rattle.runs.specs.Laws.{LawfulFrom, UnlessClosed, after_call}
 use Rattle.runs.specs.Runs.{AddsUp, RefusalsKeep, Run, RunsLawful, RunsToCloseLawful, TalliesAddUp, goes, opened, replies, replies_to_close}
 use Rattle.runs.specs.Terms.{Call, Reply, Tallies, access, close_run, closed, deliver, done, flush, flush_all, flush_page, give_up, hidden, no_exit, open_run, poke, refused, set_mode, switch, switch_root, through, trace, true_exit}
 use Rattle.runs.specs.Terms as reply
-use Rattle.runs.specs.Unit.{Ended, Running, State, Traced, access_by, access_ends, asked_in, call_limit, counted, hit_target, in_run, is_pending, no_tallies, opened_at, opened_with, out_of_run, refuse, step, step_in, store_traced, switch_ends, traced, unless_full, unless_pending, walk_ends}
+use Rattle.runs.specs.Unit.{Ended, Running, State, Traced, access_by, access_ends, asked_in, call_limit, counted, hit_target, in_run, is_pending, no_tallies, opened_at, out_of_run, refuse, step, step_in, store_traced, switch_ends, traced, unless_full, unless_pending, walk_ends}
 use Rattle.runs.proofs.Basics.{clash}
 use Rattle.runs.proofs.RunsGood.{law_of}
 

@@ -1,5 +1,5 @@
 -- The history of a run: what happened in it, memory at each of its moments, and windows.
-use Rattle.std.specs.Prelude.{◌≡◌, ℕ, ◌+◌, Bool, true, false, cond, ◌&&◌, ◌||◌, List, [], ◌∷◌, ◌++◌, ◌==◌, ◌≢◌}
+use Rattle.std.specs.Prelude.{◌≡◌, ℕ, ◌+◌, Bool, true, false, cond, ◌&&◌, ◌||◌, List, [], ◌∷◌, ◌==◌, ◌≢◌}
 use Rattle.memory.specs.Memory.{Memory}
 use Rattle.paging.specs.Terms.{store, supervisor}
 use Rattle.walk.specs.Marking.{Write, put_all}

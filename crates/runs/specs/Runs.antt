@@ -1,5 +1,5 @@
 -- Runs of the unit, and what every run promises.
-use Rattle.std.specs.Prelude.{◌≡◌, ℕ, ◌+◌, ◌≤◌, Bool, true, false, cond, List, [], ◌∷◌, is_some, Some}
+use Rattle.std.specs.Prelude.{◌≡◌, ℕ, ◌+◌, ◌≤◌, true, false, cond, List, [], ◌∷◌, is_some, Some}
 use Rattle.memory.specs.Memory.{Memory, frame_limit, has_words}
 use Rattle.paging.specs.Formats.{Format}
 use Rattle.policies.specs.Orders.{Rule}

@@ -1,5 +1,5 @@
 -- What calls and answers are made of, in plain numbers.
-use Rattle.std.specs.Prelude.{ℕ, ◌/◌, ◌^◌, Bool, cond, ◌&&◌, eqb, List, [], ◌∷◌}
+use Rattle.std.specs.Prelude.{ℕ, ◌/◌, ◌^◌, List}
 use Rattle.walk.specs.Marking.{Write}
 use Rattle.walk.specs.Walk.{Failure}
 

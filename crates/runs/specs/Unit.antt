@@ -1,12 +1,12 @@
 -- The unit: what each call answers and what it leaves, for every page format and every eviction policy.
-use Rattle.std.specs.Prelude.{ℕ, zero, suc, ◌+◌, ◌%◌, ◌^◌, Bool, true, false, cond, ◌&&◌, ◌||◌, List, [], ◌∷◌, is_some, Some, None, Option, ◌==◌, nat_le, nat_lt}
+use Rattle.std.specs.Prelude.{ℕ, zero, suc, ◌+◌, ◌%◌, ◌^◌, Bool, false, cond, ◌&&◌, ◌||◌, List, [], ◌∷◌, is_some, Some, None, Option, ◌==◌, nat_le, nat_lt}
 use Rattle.std.specs.Option.{unwrap_or}
 use Rattle.memory.specs.Answers.{Answer}
 use Rattle.memory.specs.Memory.{Memory, has_words, stored}
 use Rattle.paging.specs.Formats.{Format}
 use Rattle.paging.specs.Terms.{directory_level, is_table, store, supervisor}
 use Rattle.walk.specs.Marking.{Write, due, put_all}
-use Rattle.walk.specs.Walk.{Asked, Failure, Outcome, Seen, directory_index, faulted, reached, table_index, walk_from, word_index}
+use Rattle.walk.specs.Walk.{Asked, Failure, Outcome, directory_index, faulted, reached, table_index, walk_from, word_index}
 use Rattle.policies.specs.Orders.{Rule, first_permitted, numbered}
 use Rattle.hits.specs.Hits.{copied_at, copied_words, hit_of}
 use Rattle.shadow.specs.Slots.{check_table, drop_entry, evict, fill, find_slot, first_empty, flag_off_at, fresh, guard, is_directory, is_protected, is_unsynchronised, permitted, place_at, put_place, set_sync, shadow_at}

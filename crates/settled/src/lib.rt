@@ -1,5 +1,6 @@
 //! Accesses whose fault, if they have one, is settled at once.
 #![tactic(auto)]
+
 ghost use Rattle.std.specs.Prelude.{◌≡◌, Some};
 ghost use Rattle.unit.specs.Faults.{Waits, waiting};
 ghost use Rattle.unit.specs.Promises.{view};

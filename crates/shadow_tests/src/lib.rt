@@ -1,5 +1,6 @@
 //! Tests of the slot table and of the rule of hits.
 #![tactic(auto)]
+
 #[cfg(test)]
 mod changes;
 #[cfg(test)]

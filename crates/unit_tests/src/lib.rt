@@ -1,5 +1,6 @@
 //! Tests of the machine's public calls.
 #![tactic(auto)]
+
 #[cfg(test)]
 mod evictions;
 #[cfg(test)]

@@ -1,11 +1,10 @@
 -- The walk goes by the rules, and nothing else does.
 use Rattle.std.proofs.Common.{◌≡◌, ℕ, ◌+◌, Bool, true, false, cond, List, [], ◌∷◌, refl}
-use Rattle.memory.specs.Answers.{Answer}
 use Rattle.memory.specs.Memory.{Contents, Memory, words, cause}
 use Rattle.paging.specs.Formats.{Format}
 use Rattle.paging.specs.Terms.{because_absent, because_denied, because_malformed, directory_level, is_absent, is_page, is_table, table_level}
 use Rattle.walk.specs.Rules.{ByRules, DirectoryWord, PageAt, TableNamed, TableWord, Walks, absent_directory, absent_table, arrives, denied, in_frame, in_root, large, malformed_directory, malformed_table, no_root, no_table, outside, small}
-use Rattle.walk.specs.Walk.{Asked, Outcome, Seen, Spot, arrive, at_page, at_table, by_directory, by_table, directory_index, fails, granted, in_directory, in_table, seen, table_index, walk_from}
+use Rattle.walk.specs.Walk.{Asked, Outcome, Seen, Spot, arrive, at_page, at_table, directory_index, fails, granted, in_directory, in_table, seen, table_index, walk_from}
 
 module _ (F : Format) (a : Asked) (m : Memory) (root : ℕ) where
   by_grant : (s : Spot) (es : List Seen) (f : ℕ) → PageAt F a m root s es f → (b : Bool) → granted F a es ≡ b → (x : Contents) → m f ≡ x → Walks F a m root (cond b (arrive F a m f es x) (fails F a because_denied s 0))

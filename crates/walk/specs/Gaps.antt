@@ -1,5 +1,5 @@
 -- A place whose frame has no words stops a walk.
-use Rattle.std.specs.Prelude.{◌≡◌, ℕ, Ok, Err, Result}
+use Rattle.std.specs.Prelude.{ℕ, Ok, Err, Result}
 use Rattle.memory.specs.Memory.{Contents, words, cause}
 use Rattle.paging.specs.declared.format.Reason.TheVariants.{Outside}
 use Rattle.walk.specs.declared.fault.Gap.{Gap}

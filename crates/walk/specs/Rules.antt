@@ -1,5 +1,5 @@
 -- The walk as a relation: one rule for each way in which a step of it can go.
-use Rattle.std.specs.Prelude.{◌≡◌, ℕ, ◌+◌, Bool, true, false, List, [], ◌∷◌}
+use Rattle.std.specs.Prelude.{◌≡◌, ℕ, ◌+◌, true, false, List, [], ◌∷◌}
 use Rattle.memory.specs.Memory.{Memory, words, cause}
 use Rattle.paging.specs.Formats.{Format}
 use Rattle.paging.specs.Terms.{because_absent, because_denied, because_malformed, because_outside, directory_level, is_absent, is_page, is_table, table_level}

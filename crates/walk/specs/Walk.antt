@@ -1,8 +1,8 @@
 -- The guest's walk, over the meanings of a format and a memory alone.
-use Rattle.std.specs.Prelude.{ℕ, ◌+◌, ◌/◌, ◌%◌, ◌^◌, Bool, true, false, cond, List, [], ◌∷◌}
+use Rattle.std.specs.Prelude.{ℕ, ◌+◌, ◌/◌, ◌%◌, ◌^◌, Bool, cond, List, [], ◌∷◌}
 use Rattle.memory.specs.Answers.{Answer}
 use Rattle.memory.specs.Memory.{Contents, Memory, words, cause, frame_words}
-use Rattle.paging.specs.Formats.{Format, large_page}
+use Rattle.paging.specs.Formats.{Format}
 use Rattle.paging.specs.Terms.{because_absent, because_denied, because_malformed, because_outside, directory_level, is_absent, is_page, is_table, table_level, target_level}
 
 -- What an address of 32 bits names: a place in the directory, one in a table, and a word of the page.

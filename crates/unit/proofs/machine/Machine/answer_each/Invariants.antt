@@ -1,4 +1,4 @@
-use Rattle.std.proofs.Common.{◌+◌, ◌≤◌, length, drop, vec_items, vec_len, vec_capacity}
+use Rattle.std.proofs.Common.{◌+◌, ◌≤◌, length, vec_items, vec_len, vec_capacity}
 use Rattle.unit.specs.Promises.{view}
 use Rattle.unit.proofs.Answering.{Sofar}
 use Rattle.unit.proofs.machine.Machine.answer_each.Given as goal
