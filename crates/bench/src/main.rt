@@ -12,37 +12,9 @@ use paging::x86::X86;
 use policies::hand::Hand;
 use policies::old::Old;
 use policies::policy::EvictionPolicy;
-use std::{env, fmt};
+use std::env;
 use unit::machine::Machine;
 use workloads::{Guest, Trouble, Workload, in_runs};
-
-/// Why nothing more is printed: by the machine, or by what is around it.
-enum Failure {
-    Inside(Trouble),
-    Outside(anyhow::Error),
-}
-
-impl From<anyhow::Error> for Failure {
-    fn from(error: anyhow::Error) -> Failure {
-        Failure::Outside(error)
-    }
-}
-
-impl fmt::Display for Failure {
-    fn fmt<W: fmt::Write>(&self, f: &mut fmt::Formatter<W>) -> fmt::Result {
-        match self {
-            Failure::Inside(Trouble::Refused(refusal)) => {
-                let number = refusal.number();
-                write!(f, "refused {number}")
-            }
-            Failure::Inside(Trouble::Faulted(fault)) => {
-                let address = fault.fault().address;
-                write!(f, "fault at {address:08x}")
-            }
-            Failure::Outside(error) => write!(f, "{error}"),
-        }
-    }
-}
 
 /// What the command line asks for.
 #[derive(Drop)]
@@ -100,11 +72,8 @@ fn repeated<P: EvictionPolicy>(
 }
 
 /// The figures of one workload, on a machine of its own.
-fn measured(rt: &HostRuntime, workload: Workload, asked: &Asked) -> Result<Figures, Failure> {
-    let memory = match guest_memory(rt.alloc()) {
-        Ok(memory) => memory,
-        Err(error) => return Err(Failure::Outside(error.into())),
-    };
+fn measured(rt: &HostRuntime, workload: Workload, asked: &Asked) -> anyhow::Result<Figures> {
+    let memory = guest_memory(rt.alloc())?;
     let slots = asked.slots.unwrap_or(workload.slots());
     let measured = match workload {
         Workload::Switches => {
@@ -116,34 +85,20 @@ fn measured(rt: &HostRuntime, workload: Workload, asked: &Asked) -> Result<Figur
             repeated(&mut machine, workload, slots, asked)
         }
     };
-    match measured {
-        Ok(figures) => Ok(figures),
-        Err(trouble) => Err(Failure::Inside(trouble)),
-    }
+    Ok(measured?)
 }
 
-/// Runs the workloads that are asked for.
-fn run(rt: &HostRuntime) -> Result<(), Failure> {
-    let asked = command_line(rt)?;
+fn main(rt: HostRuntime) -> anyhow::Result<()> {
+    let asked = command_line(&rt)?;
     for workload in workloads::ALL.iter() {
         if let Some(only) = asked.only
             && only != *workload
         {
             continue;
         }
-        let figures = measured(rt, *workload, &asked)?;
+        let figures = measured(&rt, *workload, &asked)?;
         let letter = workload.letter();
-        if let Err(error) = println!(rt; "{letter} {figures}") {
-            return Err(Failure::Outside(error.into()));
-        }
+        println!(rt; "{letter} {figures}")?;
     }
     Ok(())
-}
-
-fn main(rt: HostRuntime) -> Result<(), Failure> {
-    let ended = run(&rt);
-    if let Err(failure) = &ended {
-        let _ = eprintln!(rt; "bench: {failure}");
-    }
-    ended
 }

@@ -1,17 +1,23 @@
 //! The workloads. Each is a number of rounds after a start that fills the slots.
 ghost use Rattle.std.specs.Prelude.{◌<◌};
+ghost use Rattle.unit.specs.Faults.{Waits};
+ghost use Rattle.unit.specs.Promises.{view};
+ghost use Rattle.unit.specs.Replies.{answer_reply};
 
 use crate::figures::Figures;
 use crate::guest::{PAGES, entry_address, page_address, page_entry};
 use memory::flat::Flat;
-use memory::guest::Word;
+use memory::guest::{GuestMemory, Word};
 use memory::refusal::Refusal;
 use paging::access::Address;
+use paging::format::PageFormat;
 use paging::x86::X86;
 use policies::policy::EvictionPolicy;
+use settled::{Settlement, settle};
+use std::error::Error;
+use std::fmt;
 use unit::answers::Answer;
 use unit::machine::Machine;
-use unit::tokens::PendingFault;
 
 #[derive(Clone, Copy, PartialEq, Eq)]
 pub enum Workload {
@@ -35,10 +41,26 @@ pub const ALL: [Workload; 5] = [
     Workload::Guards,
 ];
 
-/// Why a workload was not carried out. The fault cannot be let go, and goes up to `main`.
+/// Why a workload was not carried out.
+#[derive(Debug, Drop)]
 pub enum Trouble {
     Refused(Refusal),
-    Faulted(PendingFault),
+    /// An access to the address faulted. The fault is given up.
+    Faulted(Address),
+}
+
+impl Error for Trouble {}
+
+impl fmt::Display for Trouble {
+    fn fmt<W: fmt::Write>(&self, f: &mut fmt::Formatter<W>) -> fmt::Result {
+        match self {
+            Trouble::Refused(refusal) => {
+                let number = refusal.number();
+                write!(f, "refused {number}")
+            }
+            Trouble::Faulted(address) => write!(f, "fault at {address:08x}"),
+        }
+    }
 }
 
 impl From<Refusal> for Trouble {
@@ -93,16 +115,25 @@ impl Workload {
 pub type Guest<P> = Machine<Flat, X86, P>;
 
 /// The word of an access that came through.
-fn came_through(answer: Result<Answer, Refusal>) -> Result<Word, Trouble> {
+fn came_through<M: GuestMemory, F: PageFormat, P: EvictionPolicy>(
+    machine: &mut Machine<M, F, P>,
+    answer: Answer,
+) -> Result<Word, Trouble>
+    requires { Waits (view M.GuestMemory F.PageFormat P.EvictionPolicy machine.old) (answer_reply answer) }
+{
     match answer {
-        Ok(Answer::Through(through)) => Ok(through.value),
-        Ok(Answer::Faulted(fault)) => Err(Trouble::Faulted(fault)),
-        Err(refusal) => Err(Trouble::Refused(refusal)),
+        Answer::Through(through) => Ok(through.value),
+        Answer::Faulted(fault) => {
+            let address = fault.fault().address;
+            settle(machine, fault, Settlement::GiveUp);
+            Err(Trouble::Faulted(address))
+        }
     }
 }
 
 fn load<P: EvictionPolicy>(machine: &mut Guest<P>, address: Address) -> Result<Word, Trouble> {
-    came_through(machine.load(address))
+    let answer = machine.load(address)?;
+    came_through(machine, answer)
 }
 
 fn store<P: EvictionPolicy>(
@@ -110,7 +141,8 @@ fn store<P: EvictionPolicy>(
     address: Address,
     word: Word,
 ) -> Result<Word, Trouble> {
-    came_through(machine.store(address, word))
+    let answer = machine.store(address, word)?;
+    came_through(machine, answer)
 }
 
 /// The addresses of all pages, dealt out to so many tables.
