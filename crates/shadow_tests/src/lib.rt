@@ -6,7 +6,7 @@ mod changes;
 #[cfg(test)]
 mod finding;
 #[cfg(test)]
-mod hits;
+mod hit_rule;
 #[cfg(test)]
 mod scene;
 #[cfg(test)]
