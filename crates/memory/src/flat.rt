@@ -1,10 +1,12 @@
 //! Flat memory.
 ghost use Rattle.std.specs.Prelude.{◌≡◌, true};
-ghost use Rattle.memory.specs.Flat.{ToldWhole, flat, position_of, whole};
-ghost use Rattle.memory.specs.Memory.{stored};
+ghost use Rattle.memory.specs.Flat.{ToldWhole, flat, position_of};
 ghost use Rattle.std.proofs.Common.{rules};
 
 use crate::guest::{Cause, FRAME_LIMIT, FRAME_WORDS, Frame, GuestMemory, Word};
+
+/// The cause of a frame that is not whole.
+const NOT_WHOLE: Cause = Cause { number: 1 };
 
 /// The whole frames of a store of words, at most 4,096 of them. A rest that fills no frame is never read or written.
 #[derive(Drop)]
@@ -13,23 +15,15 @@ pub struct Flat {
 }
 
 impl Flat {
-    /// Is the frame whole in the store? Where it is not, its cause is 1.
+    /// Is the frame whole in the store? Where it is not, its cause is told.
     fn whole(&self, frame: Frame) -> Result<(), Cause>
         ensures { ToldWhole self.now.store.items frame result }
     {
         if frame < FRAME_LIMIT && (frame as usize) < self.store.len() / FRAME_WORDS {
             Ok(())
         } else {
-            Err(Cause { number: 1 })
+            Err(NOT_WHOLE)
         }
-    }
-
-    /// Changes one word of a frame that is whole.
-    fn put(&mut self, frame: Frame, index: u32, word: Word)
-        requires { whole self.old.store.items frame ≡ true }
-        ensures { flat self.new.store.items ≡ stored (flat self.old.store.items) frame index word }
-    {
-        self.store[position(frame, index)] = word;
     }
 }
 
@@ -54,7 +48,7 @@ impl GuestMemory for Flat {
 
     fn write(&mut self, frame: Frame, index: u32, word: Word) -> Result<(), Cause> {
         self.whole(frame)?;
-        self.put(frame, index, word);
+        self.store[position(frame, index)] = word;
         Ok(())
     }
 }

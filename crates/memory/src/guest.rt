@@ -16,6 +16,7 @@ pub const FRAME_WORDS: usize = 1024;
 pub const FRAME_LIMIT: Frame = 4096;
 
 /// Why a frame has no words: a number that the memory gives.
+// Not an enum: the trait is open, and each memory gives causes of its own, so there is no list of kinds.
 #[derive(Clone, Copy, PartialEq, Eq, Debug)]
 pub struct Cause {
     pub number: u32,

@@ -1,3 +1,4 @@
+-- Marks, Words and the two files of laws hold proofs. They stand here since the laws at an impl cite nothing of proofs/.
 pub mod Bits
 pub mod Entries
 pub mod Formats

@@ -1,12 +1,13 @@
 -- The laws of Sv32: marks are bits 6 and 7 of a page's word, and no page is read or allowed by them.
-use Rattle.std.specs.Prelude.{◌≡◌, ℕ, ◌/◌, ◌%◌, Bool, true, false, cond, ◌&&◌, List, [], ◌∷◌, length, ◌==◌, bit_or, slice_index_or, refl}
+use Rattle.std.specs.Prelude.{◌≡◌, ℕ, ◌/◌, ◌%◌, Bool, true, false, cond, ◌&&◌, ◌||◌, List, [], ◌∷◌, length, ◌==◌, bit_or, slice_index_or, refl}
 use Rattle.std.proofs.Common.{sym, ap, ◌∙◌, arith}
 use Rattle.std.specs.Int.Bits.{or_zero_r}
 use Rattle.std.proofs.lemmas.Bool.Decides.{nat_tests}
-use Rattle.paging.specs.Formats.{ReadingKept, RightsKept}
-use Rattle.paging.specs.Sv32.{leaf, right, side, sv32, sv32_marks, sv32_reads}
-use Rattle.paging.specs.Terms.{is_page, store}
-use Rattle.paging.specs.Marks.{bit_kept, high_kept}
+use Rattle.memory.specs.Answers.{Answer}
+use Rattle.paging.specs.Formats.{EntriesMarked, ReadingKept, RightsKept}
+use Rattle.paging.specs.Sv32.{leaf, right, side, sv32, sv32_due, sv32_marks, sv32_reads}
+use Rattle.paging.specs.Terms.{is_page, is_table, store}
+use Rattle.paging.specs.Marks.{bit_kept, entries_by, high_kept}
 use Rattle.paging.specs.Words.{page_after}
 
 -- a mask of marks: nothing below bit 6, nothing above bit 7
@@ -51,3 +52,9 @@ rights_kept upper lower w l k j p =
     ap (λ (v : ℕ). right j v && side p v) (page_after upper (sv32_marks l k w) lower)
     ∙ either_word lower w l k j p
     ∙ sym (ap (λ (v : ℕ). right j v && side p v) (page_after upper w lower))
+
+due_none : (r : Answer) (k : ℕ) → (is_table r || is_page r) ≡ false → sv32_due r k ≡ 0
+due_none r k h = grind (arith, nat_tests)
+
+pub entries_marked : EntriesMarked sv32
+entries_marked = entries_by sv32_reads sv32_due due_none

@@ -1,5 +1,6 @@
 -- 32-bit x86 paging with 4 MiB pages and supervisor write protection.
-use Rattle.std.specs.Prelude.{ℕ, ◌+◌, ◌*◌, ◌/◌, ◌%◌, ◌^◌, Bool, true, cond, not, ◌&&◌, ◌||◌, List, [], ◌∷◌, ◌==◌, bit_or}
+use Rattle.std.specs.Prelude.{ℕ, ◌+◌, ◌*◌, ◌/◌, ◌%◌, ◌^◌, Bool, cond, not, ◌&&◌, ◌||◌, List, ◌==◌, bit_or}
+use Rattle.std.specs.List.{list_all}
 use Rattle.memory.specs.Answers.{Answer}
 use Rattle.paging.specs.Bits.{bit}
 use Rattle.paging.specs.Formats.{Format, large_page}
@@ -36,8 +37,7 @@ word_allows k p w = (not (k == store) || writable w) && (not (p == user) || for_
 
 -- in every word read
 abbrev pub x86_allows : List ℕ → ℕ → ℕ → Bool
-x86_allows [] k p = true
-x86_allows (w ∷ ws) k p = word_allows k p w && x86_allows ws k p
+x86_allows ws k p = list_all (word_allows k p) ws
 
 -- A on pages and tables, and D for a store on a page
 abbrev pub x86_due : Answer → ℕ → ℕ

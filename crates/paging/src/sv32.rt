@@ -3,9 +3,8 @@ ghost use Rattle.std.specs.Prelude.{◌≡◌, ◌&&◌};
 ghost use Rattle.paging.specs.Numbers.{kind_number, privilege_number, reading};
 ghost use Rattle.paging.specs.Sv32.{page_word, right, side, sv32, sv32_due, sv32_reads};
 ghost use Rattle.paging.specs.Sv32Laws as laws;
-ghost use Rattle.paging.specs.Marks.{once_by, last_by, unmarked};
-ghost use Rattle.std.proofs.Common.{arith, rules};
-ghost use Rattle.std.proofs.lemmas.Bool.Decides.{nat_tests};
+ghost use Rattle.paging.specs.Marks.{once_by, last_by};
+ghost use Rattle.std.proofs.Common.{rules};
 
 use crate::access::{Kind, Privilege};
 use crate::bits::is_set;
@@ -36,10 +35,7 @@ const FRAME: u32 = 10;
 fn page_word(words: &[Word]) -> Word
     ensures { result ≡ page_word words.now }
 {
-    match words.last() {
-        Some(word) => *word,
-        None => 0,
-    }
+    words.last().copied().unwrap_or(0)
 }
 
 /// Does a page's own word allow the access?
@@ -59,6 +55,7 @@ fn page_allows(word: Word, kind: Kind, privilege: Privilege) -> bool
 }
 
 /// The marks that an access leaves on a word, by how the word reads.
+// Not one function with x86's: there a table is marked too, so that only a page's two lines would be shared.
 fn due(entry: Entry, kind: Kind) -> Word
     ensures { result ≡ sv32_due (reading entry) (kind_number kind) }
 {
@@ -80,7 +77,7 @@ impl PageFormat for Sv32 {
 
     ghost marks_last = { last_by sv32_reads sv32_due laws.reading_kept };
 
-    ghost entries_marked = { λ l k w h. unmarked w (sv32_due (sv32_reads l w) k) (Prim.grind (arith, nat_tests)) };
+    ghost entries_marked = { laws.entries_marked };
 
     ghost frames_bounded = { Prim.search rules };
 
@@ -113,6 +110,7 @@ impl PageFormat for Sv32 {
         page_allows(page_word(words), kind, privilege)
     }
 
+    // The same line in each format: a shared function would be told reading and marks, and be no plainer.
     fn mark(level: Level, kind: Kind, word: Word) -> Word {
         word | due(Self::read(level, word), kind)
     }

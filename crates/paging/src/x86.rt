@@ -3,9 +3,8 @@ ghost use Rattle.std.specs.Prelude.{◌≡◌};
 ghost use Rattle.paging.specs.Numbers.{kind_number, privilege_number, reading};
 ghost use Rattle.paging.specs.X86.{word_allows, x86, x86_allows, x86_due, x86_reads};
 ghost use Rattle.paging.specs.X86Laws as laws;
-ghost use Rattle.paging.specs.Marks.{once_by, last_by, unmarked};
-ghost use Rattle.std.proofs.Common.{arith, rules};
-ghost use Rattle.std.proofs.lemmas.Bool.Decides.{nat_tests};
+ghost use Rattle.paging.specs.Marks.{once_by, last_by};
+ghost use Rattle.std.proofs.Common.{rules};
 
 use crate::access::{Kind, Privilege};
 use crate::bits::is_set;
@@ -50,6 +49,7 @@ fn word_allows(word: Word, kind: Kind, privilege: Privilege) -> bool
 }
 
 /// The marks that an access leaves on a word, by how the word reads.
+// Not one function with Sv32's: there no table is marked, so that only a page's two lines would be shared.
 fn due(entry: Entry, kind: Kind) -> Word
     ensures { result ≡ x86_due (reading entry) (kind_number kind) }
 {
@@ -72,7 +72,7 @@ impl PageFormat for X86 {
 
     ghost marks_last = { last_by x86_reads x86_due laws.reading_kept };
 
-    ghost entries_marked = { λ l k w h. unmarked w (x86_due (x86_reads l w) k) (Prim.grind (arith, nat_tests)) };
+    ghost entries_marked = { laws.entries_marked };
 
     ghost frames_bounded = { Prim.search rules };
 
@@ -95,14 +95,10 @@ impl PageFormat for X86 {
     }
 
     fn allows(words: &[Word], kind: Kind, privilege: Privilege) -> bool {
-        for word in words {
-            if !word_allows(*word, kind, privilege) {
-                return false;
-            }
-        }
-        true
+        words.iter().all(|word| word_allows(*word, kind, privilege))
     }
 
+    // The same line in each format: a shared function would be told reading and marks, and be no plainer.
     fn mark(level: Level, kind: Kind, word: Word) -> Word {
         word | due(Self::read(level, word), kind)
     }

@@ -57,3 +57,6 @@ module _ (F : Format) (a : Asked) (m : Memory) (root : ℕ) where
 
   pub by_rules : ByRules F a m root (walk_from F a m root)
   by_rules = record { holds = follows; only = only }
+
+  pub equal_by_rules : (o : Outcome) → o ≡ walk_from F a m root → ByRules F a m root o
+  equal_by_rules o e = rw e by_rules

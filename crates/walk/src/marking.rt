@@ -33,13 +33,12 @@ fn mark_entry<F: PageFormat, M: GuestMemory>(
     ensures answer { mark_writes result ≡ mark_at F.PageFormat.format (kind_number kind) (M.GuestMemory.frames memory.old) (entry_seen entry).spot }
     ensures after { M.GuestMemory.frames memory.new ≡ put_all (M.GuestMemory.frames memory.old) (mark_at F.PageFormat.format (kind_number kind) (M.GuestMemory.frames memory.old) (entry_seen entry).spot) }
 {
-    let Ok(word) = memory.read(entry.frame, entry.index) else {
-        return None;
-    };
+    let word = memory.read(entry.frame, entry.index).ok()?;
     let marked = F::mark(entry.level, kind, word);
     if marked == word {
         return None;
     }
+    // The frame has words, as the read has shown, so that the write has no cause to answer.
     let _ = memory.write(entry.frame, entry.index, marked);
     Some(Mark {
         frame: entry.frame,
@@ -58,6 +57,7 @@ pub fn mark_entries<F: PageFormat, M: GuestMemory>(
     ensures after { M.GuestMemory.frames memory.new ≡ put_all (M.GuestMemory.frames memory.old) (due F.PageFormat.format (kind_number kind) (M.GuestMemory.frames memory.old) (entries walked.directory walked.table)) }
 {
     let directory = mark_entry::<F, M>(memory, kind, walked.directory);
+    // Not `and_then`: where there is no table, a proof would know nothing of the memory that the closure borrows.
     let table = match walked.table {
         Some(entry) => mark_entry::<F, M>(memory, kind, entry),
         None => None,

@@ -1,13 +1,12 @@
 //! The walk.
 ghost use Rattle.std.specs.Prelude.{◌≡◌};
-ghost use Rattle.paging.specs.Numbers.{level_number};
-ghost use Rattle.walk.specs.Gaps.{gap_stop, word_or_gap};
-ghost use Rattle.walk.specs.Numbers.{asked, entry_seen, outcome, stopped};
+ghost use Rattle.walk.specs.Gaps.{entry_or_gap, gap_stop, word_or_gap};
+ghost use Rattle.walk.specs.Numbers.{asked, entry_seen, fault_numbers, outcome, stop_failure, stopped};
 ghost use Rattle.walk.specs.Rules.{ByRules};
 ghost use Rattle.walk.specs.Walk.{at_table, walk_from};
 
-use crate::fault::{Access, Depth, Fault, Gap, Place, Stop};
-use crate::path::{EntryRead, Walked, directory_index, table_index, word_index};
+use crate::fault::{Access, Fault, Gap, Place, Stop};
+use crate::path::{EntryRead, Walked, directory_index, table_index};
 use memory::guest::{Frame, GuestMemory, Word};
 use paging::format::{Entry, Level, PageFormat, Reason};
 
@@ -23,14 +22,46 @@ impl From<Gap> for Stop {
     }
 }
 
+/// The fault of an access whose walk stopped.
+fn fault<F: PageFormat>(access: Access, stop: Stop) -> Fault
+    ensures { fault_numbers result ≡ stop_failure F.PageFormat.format (asked access) stop }
+{
+    Fault {
+        address: access.address,
+        reason: stop.reason,
+        depth: stop.place.depth,
+        frame: stop.place.frame,
+        index: stop.place.index,
+        code: F::code(stop.reason, access.kind, access.privilege),
+        cause: stop.cause,
+    }
+}
+
 /// The word at a place, or the gap that is there.
 fn word_at<M: GuestMemory>(memory: &M, place: Place) -> Result<Word, Gap>
     ensures { result ≡ word_or_gap place (M.GuestMemory.frames memory.now place.frame) }
 {
-    match memory.read(place.frame, place.index) {
-        Ok(word) => Ok(word),
-        Err(cause) => Err(Gap { place, cause }),
-    }
+    memory
+        .read(place.frame, place.index)
+        .map_err(|cause| Gap { place, cause })
+}
+
+/// The entry of a level at an index of a frame, or the gap that is there.
+fn entry_at<M: GuestMemory>(
+    memory: &M,
+    level: Level,
+    frame: Frame,
+    index: u32,
+) -> Result<EntryRead, Gap>
+    ensures { result ≡ entry_or_gap level index frame (M.GuestMemory.frames memory.now frame) }
+{
+    let word = word_at(memory, Place::entry(level, frame, index))?;
+    Ok(EntryRead {
+        level,
+        frame,
+        index,
+        word,
+    })
 }
 
 /// From the directory's entry through a table.
@@ -42,36 +73,15 @@ fn through_table<F: PageFormat, M: GuestMemory>(
 ) -> Result<Walked, Stop>
     ensures { stopped F.PageFormat.format (asked access) result ≡ at_table F.PageFormat.format (asked access) (M.GuestMemory.frames memory.now) (entry_seen directory) frame }
 {
-    let index = table_index(access.address);
-    let word = word_at(
-        memory,
-        Place {
-            depth: Depth::Entry(Level::Table),
-            frame,
-            index,
-        },
-    )?;
-    let table = EntryRead {
-        level: Level::Table,
-        frame,
-        index,
-        word,
-    };
-    match F::read(Level::Table, word) {
+    let table = entry_at(memory, Level::Table, frame, table_index(access.address))?;
+    match F::read(Level::Table, table.word) {
         Entry::Absent => Err(table.stop(Reason::Absent)),
         Entry::Malformed | Entry::Table(_) => Err(table.stop(Reason::Malformed)),
         Entry::Page(target) => {
-            if !F::allows(&[directory.word, word], access.kind, access.privilege) {
+            if !F::allows(&[directory.word, table.word], access.kind, access.privilege) {
                 return Err(table.stop(Reason::Denied));
             }
-            word_at(
-                memory,
-                Place {
-                    depth: Depth::Target,
-                    frame: target,
-                    index: word_index(access.address),
-                },
-            )?;
+            word_at(memory, Place::target(target, access.address))?;
             Ok(Walked {
                 target,
                 directory,
@@ -89,66 +99,28 @@ fn descend<F: PageFormat, M: GuestMemory>(
 ) -> Result<Walked, Stop>
     ensures { stopped F.PageFormat.format (asked access) result ≡ walk_from F.PageFormat.format (asked access) (M.GuestMemory.frames memory.now) root }
 {
-    let index = directory_index(access.address);
-    let word = word_at(
+    let directory = entry_at(
         memory,
-        Place {
-            depth: Depth::Entry(Level::Directory),
-            frame: root,
-            index,
-        },
+        Level::Directory,
+        root,
+        directory_index(access.address),
     )?;
-    let directory = EntryRead {
-        level: Level::Directory,
-        frame: root,
-        index,
-        word,
-    };
-    match F::read(Level::Directory, word) {
+    match F::read(Level::Directory, directory.word) {
         Entry::Absent => Err(directory.stop(Reason::Absent)),
         Entry::Malformed => Err(directory.stop(Reason::Malformed)),
         Entry::Table(frame) => through_table::<F, M>(memory, access, directory, frame),
         Entry::Page(first) => {
-            if !F::allows(&[word], access.kind, access.privilege) {
+            if !F::allows(&[directory.word], access.kind, access.privilege) {
                 return Err(directory.stop(Reason::Denied));
             }
             let target = first + table_index(access.address);
-            word_at(
-                memory,
-                Place {
-                    depth: Depth::Target,
-                    frame: target,
-                    index: word_index(access.address),
-                },
-            )?;
+            word_at(memory, Place::target(target, access.address))?;
             Ok(Walked {
                 target,
                 directory,
                 table: None,
             })
         }
-    }
-}
-
-/// The walk of an access from a root frame.
-fn translate<F: PageFormat, M: GuestMemory>(
-    memory: &M,
-    root: Frame,
-    access: Access,
-) -> Result<Walked, Fault>
-    ensures { outcome result ≡ walk_from F.PageFormat.format (asked access) (M.GuestMemory.frames memory.now) root }
-{
-    match descend::<F, M>(memory, root, access) {
-        Ok(walked) => Ok(walked),
-        Err(stop) => Err(Fault {
-            address: access.address,
-            reason: stop.reason,
-            depth: stop.place.depth,
-            frame: stop.place.frame,
-            index: stop.place.index,
-            code: F::code(stop.reason, access.kind, access.privilege),
-            cause: stop.cause,
-        }),
     }
 }
 
@@ -162,5 +134,5 @@ pub fn walk<F: PageFormat, M: GuestMemory>(
     ensures is { outcome result ≡ walk_from F.PageFormat.format (asked access) (M.GuestMemory.frames memory.now) root }
     ensures rules { ByRules F.PageFormat.format (asked access) (M.GuestMemory.frames memory.now) root (outcome result) }
 {
-    translate::<F, M>(memory, root, access)
+    descend::<F, M>(memory, root, access).map_err(|stop| fault::<F>(access, stop))
 }

@@ -1,7 +1,7 @@
 //! A partition is a guest memory.
 ghost use Rattle.std.specs.Prelude.{◌≡◌};
 ghost use Rattle.memory.specs.Partition.{Built, parted};
-ghost use Rattle.std.proofs.Common.{rules, arith};
+ghost use Rattle.std.proofs.Common.{rules};
 
 use super::Partition;
 use crate::guest::{Cause, FRAME_LIMIT, Frame, GuestMemory, Word};
@@ -32,14 +32,13 @@ impl<M> Partition<M> {
 impl<M: GuestMemory> GuestMemory for Partition<M> {
     ghost frames = { λ p. parted (M.GuestMemory.frames p.under) p.first p.count };
 
-    ghost bounded = { first_of (Prim.search rules, Prim.grind (arith, Self.row.coded.inj)) };
+    ghost bounded = { Prim.search rules };
 
-    ghost wraps = { first_of (Prim.search rules, Prim.grind (arith, Self.row.coded.inj)) };
+    ghost wraps = { Prim.search rules };
 
     fn read(&self, frame: Frame, index: u32) -> Result<Word, Cause> {
         if frame < self.count {
-            let word = self.under.read(self.first + frame, index)?;
-            Ok(word)
+            self.under.read(self.first + frame, index)
         } else {
             Err(OUTSIDE)
         }
@@ -47,8 +46,7 @@ impl<M: GuestMemory> GuestMemory for Partition<M> {
 
     fn write(&mut self, frame: Frame, index: u32, word: Word) -> Result<(), Cause> {
         if frame < self.count {
-            self.under.write(self.first + frame, index, word)?;
-            Ok(())
+            self.under.write(self.first + frame, index, word)
         } else {
             Err(OUTSIDE)
         }
