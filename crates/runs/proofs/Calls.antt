@@ -21,7 +21,7 @@ use Rattle.runs.specs.Laws.{after_access, after_call, asked_now, fault, guest_wa
 use Rattle.runs.specs.Laws as laws_of
 use Rattle.runs.specs.Terms.{Call, access, close_run, deliver, flush, flush_all, flush_page, give_up, open_run, page_of, poke, set_mode, switch_root}
 use Rattle.runs.specs.Unit.{Ended, Hart, Running, State, Taken, access_by, access_ends, asked_in, call_limit, count_in, drop_below, drop_page, hit_answer, hit_target, in_run, is_pending, obtain, refuse, resync_all, root_slot, switch_ends, unless_full, unless_pending, walk_ends}
-use Rattle.runs.proofs.Basics.{clash, elim_eq, untrue}
+use Rattle.runs.proofs.Basics.{elim_eq}
 use Rattle.runs.proofs.Counting.{tallied_more, tallied_still}
 use Rattle.runs.proofs.Fewer.{Fewer, fewer_empty, fewer_same}
 use Rattle.runs.proofs.Good.{Fit, Good, Past, Then, refit}
@@ -145,7 +145,7 @@ module _ (F : Format) (laws : LawsOfMarking F) (R : Rule) (kept_order : OrdersKe
       privileged = privilege;
       window = present o _ (page_of a.address) h by_root;
       present = by_root;
-      exit = λ recent. untrue (sym (ap is_some none) ∙ good.ready a recent);
+      exit = λ recent. cc (good.ready a recent);
     }
       where
         by_root : guest_walk F a (root_at o h) m ≡ fault x
@@ -198,7 +198,7 @@ module _ (F : Format) (laws : LawsOfMarking F) (R : Rule) (kept_order : OrdersKe
     )
 
     lag_clash : {A : Type 0} (n : SlotTable) → ((k : ℕ) → lags (shadow_at k n) ≡ false) → (k f : ℕ) → shadow_at k n ≡ Table f Unsynchronised → A
-    lag_clash n calm k f e = let c : true ≡ false = sym (ap lags e) ∙ calm k in clash cc
+    lag_clash n calm k f e = let c : true ≡ false = sym (ap lags e) ∙ calm k in cc
 
     all_turned : Turned r.table (resync_all m r.table)
     all_turned = (each F m (0 ∷ 1 ∷ 2 ∷ 3 ∷ 4 ∷ 5 ∷ 6 ∷ 7 ∷ []) r.table r.order good.fit).turned
@@ -264,10 +264,10 @@ module _ (F : Format) (laws : LawsOfMarking F) (R : Rule) (kept_order : OrdersKe
     page_dropped a = go (place_at I (directory_index a) r.table) refl
       where
         go : (x : Place) → place_at I (directory_index a) r.table ≡ x → Dropped a (drop_below (table_index a) r.table x)
-        go Empty e = undropped a Empty e (λ w k z. clash cc)
+        go Empty e = undropped a Empty e (λ w k z. cc)
         go (Link w k) e = dropped_link a w k e
-        go (Leaf w c b) e = undropped a (Leaf w c b) e (λ u k z. clash cc)
-        go (Piece b) e = undropped a (Piece b) e (λ u k z. clash cc)
+        go (Leaf w c b) e = undropped a (Leaf w c b) e (λ u k z. cc)
+        go (Piece b) e = undropped a (Piece b) e (λ u k z. cc)
 
     page_good : (a : ℕ) → Good F o (flushed_page a ∷ h) (record { table = drop_page root a r.table; order = r.order; hart = count_in flush 0 r.hart })
     page_good a = record {
@@ -299,7 +299,7 @@ module _ (F : Format) (laws : LawsOfMarking F) (R : Rule) (kept_order : OrdersKe
             let own : i ≡ I = d.fit.sound.unique i I (thing.Directory root) (ap (is_directory_of root) e ∙ directory_here root) (ap (is_directory_of root) at ∙ directory_here root) in
             let link : place_at I (directory_index a) (drop_page root a r.table) ≡ Link u k = ap (λ (n : ℕ). place_at I n (drop_page root a r.table)) p.0 ∙ ap (λ (n : ℕ). place_at n (directory_index b) (drop_page root a r.table)) (sym own) ∙ l in
             let empty : Empty ≡ Leaf y c z = sym (d.gone u k link) ∙ ap (λ (n : ℕ). place_at k n (drop_page root a r.table)) p.1 ∙ leaf in
-            clash cc
+            cc
 
         uncovered : (i b u k x y c : ℕ) (z : Bool) → (page_of a ≡ page_of b → ⊥) → shadow_at i (drop_page root a r.table) ≡ Directory root → place_at i (directory_index b) (drop_page root a r.table) ≡ Link u k
             → shadow_at k (drop_page root a r.table) ≡ Table x Unsynchronised → place_at k (table_index b) (drop_page root a r.table) ≡ Leaf y c z → Sometime o (Then F root b u x y) (page_of b) (flushed_page a ∷ h)
@@ -396,5 +396,5 @@ module _ (F : Format) (laws : LawsOfMarking F) (R : Rule) (kept_order : OrdersKe
     call_fine (give_up x) =
         either_fine (give_up x) (is_pending x r.hart.pending) _ (refuse s 10)
         (λ z. (refl, λ k e. goes_on _ _ _ refl (still_good settled _ refl refl (λ n. refl) refl refl good.mode (tallied_still settled h r.hart.tallies refl good.tallied) settled_ready) k e)) (λ z. refused_fine (give_up x) 10)
-    call_fine close_run = pending_fine close_run _ (good.tallied, λ k z. clash cc)
+    call_fine close_run = pending_fine close_run _ (good.tallied, λ k z. cc)
     call_fine (poke f i w) = refused_fine (poke f i w) 1

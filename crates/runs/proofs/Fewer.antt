@@ -8,7 +8,7 @@ use Rattle.slot.specs.declared.slots.Shadow.{Shadow}
 use Rattle.slot.specs.declared.slots.Shadow.TheVariants.{Directory, Table}
 use Rattle.slot.specs.declared.slots.SyncState.TheVariants.{Unsynchronised}
 use Rattle.slot.specs.declared.slots.Thing.{Thing}
-use Rattle.runs.proofs.Basics.{clash, cond_other}
+use Rattle.runs.proofs.Basics.{cond_other}
 use Rattle.runs.proofs.Losses.{Less, checked_less, guard_at_less, kept, less_cond, less_leaf, less_link, unlink_less}
 use Rattle.runs.proofs.Shadows.{new_protected}
 use Rattle.runs.proofs.Views.{View, v_check, v_checked, v_drop, v_evict, v_fill, v_guard, v_put}
@@ -52,13 +52,13 @@ fewer_guard f v = fewer_less (λ i j. guard_at_less f j (v.sh i) (v.pl i j)) (λ
 
 pub fewer_check : (m : Memory) (i f : ℕ) (v : View) → Fewer v (v_check m i f v)
 unfolding v_check
-fewer_check m i f v = fewer_trans (fewer_less (checked_less m i f v) (λ k d w s r e. cond_other (eqb k i) (λ z. clash cc)) (λ k g. cond_other (eqb k i) (λ z. clash cc))) (fewer_guard f (v_checked m i f v))
+fewer_check m i f v = fewer_trans (fewer_less (checked_less m i f v) (λ k d w s r e. cond_other (eqb k i) (λ z. cc)) (λ k g. cond_other (eqb k i) (λ z. cc))) (fewer_guard f (v_checked m i f v))
 
 module _ (i : ℕ) (v : View) where
   pub fewer_evict : Fewer v (v_evict i v)
   unfolding v_evict
   fewer_evict =
-      fewer_less (λ k j. less_cond (eqb k i) (unlink_less i (v.sh k) (v.pl k j))) (λ k d w s r e. cond_other (eqb k i) (λ z. clash cc)) (λ k g. cond_other (eqb k i) (λ z. clash cc))
+      fewer_less (λ k j. less_cond (eqb k i) (unlink_less i (v.sh k) (v.pl k j))) (λ k d w s r e. cond_other (eqb k i) (λ z. cc)) (λ k g. cond_other (eqb k i) (λ z. cc))
 
   pub fewer_fill : (x : Thing) → Fewer v (v_fill i x v)
   unfolding v_fill
@@ -66,7 +66,7 @@ module _ (i : ℕ) (v : View) where
     where
       -- the slot that is filled has no link
       roots : (t : Bool) (p : Place) (y : Shadow) (w s r : ℕ) → cond t Empty p ≡ Link w s → cond t (shadow_of x) y ≡ Directory r → y ≡ Directory r
-      roots true p y w s r e q = clash cc
+      roots true p y w s r e q = cc
       roots false p y w s r e q = q
 
   pub fewer_drop : (j : ℕ) → Fewer v (v_drop i j v)

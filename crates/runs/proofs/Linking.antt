@@ -14,7 +14,7 @@ use Rattle.shadow.specs.declared.slots.SlotTable.{SlotTable}
 use Rattle.slot.specs.declared.slots.SyncState.TheVariants.{Unsynchronised}
 use Rattle.runs.specs.Laws.{word_at}
 use Rattle.runs.specs.Unit.{Taken, good_link, link_slot, linked, obtain, root_slot, taken, with_link}
-use Rattle.runs.proofs.Basics.{by_eq₂, clash}
+use Rattle.runs.proofs.Basics.{by_eq₂}
 use Rattle.runs.proofs.Fewer.{Fewer, LeafThere}
 use Rattle.runs.proofs.Good.{Fit, refit}
 use Rattle.runs.proofs.Places.{roomy_put, small_slot, view_put}
@@ -112,7 +112,7 @@ module _ (F : Format) (R : Rule) (kept_order : OrdersKept R) (m : Memory) (root 
 
         old_leaf : (s j x c : ℕ) → LeafThere (v_put I d (Link w k.slot) (view k.table)) s j x c → LeafThere (view k.table) s j x c
         old_leaf s j x c l =
-            ⊎_elim (λ u. clash (cc u.2)) (λ u. record { flag = l.flag; is = u })
+            ⊎_elim (λ u. absurd (cc u.2)) (λ u. record { flag = l.flag; is = u })
             (put_either (view k.table) I d (Link w k.slot) s j (Leaf x c l.flag) l.is)
 
         olds : Olds root (view t) (v_put I d (Link w k.slot) (view k.table))
@@ -122,7 +122,7 @@ module _ (F : Format) (R : Rule) (kept_order : OrdersKept R) (m : Memory) (root 
             let at : k.slot ≡ s = cc y.2 in
             let lag : shadow_at s k.table ≡ Table f Unsynchronised = sym (put_sh (view k.table) I d (Link w k.slot) s) ∙ z.lag in
             let n : true ≡ false = sym (ap lags lag) ∙ sym (ap (λ (n : ℕ). lags (shadow_at n k.table)) at) ∙ g.calm in
-            clash cc)
+            cc)
             (λ y.
             olds_fewer root g.fewer i e u s f j x c
             (record { dir = sym (put_sh (view k.table) I d (Link w k.slot) i) ∙ z.dir; link = y; lag = sym (put_sh (view k.table) I d (Link w k.slot) s) ∙ z.lag; leaf = old_leaf s j x c z.leaf }))

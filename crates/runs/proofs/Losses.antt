@@ -7,7 +7,6 @@ use Rattle.slot.specs.declared.slots.Place.TheVariants.{Empty, Link, Leaf, Piece
 use Rattle.slot.specs.declared.slots.Shadow.{Shadow}
 use Rattle.slot.specs.declared.slots.Shadow.TheVariants.{Nothing, Directory, Table, Split}
 use Rattle.runs.specs.Laws.{word_at}
-use Rattle.runs.proofs.Basics.{clash, untrue}
 use Rattle.runs.proofs.Sound.{opens}
 use Rattle.runs.proofs.Views.{View, guard_at, unlink_at, v_checked}
 
@@ -21,35 +20,35 @@ pub data Less : Place → Place → Type 0 where
 pub less_empty : {p q : Place} → Less p q → q ≡ Empty → p ≡ Empty
 less_empty gone e = refl
 less_empty kept e = e
-less_empty leaf_off e = clash cc
-less_empty piece_off e = clash cc
+less_empty leaf_off e = cc
+less_empty piece_off e = cc
 
 pub less_link : {p q : Place} → Less p q → (w s : ℕ) → p ≡ Link w s → q ≡ Link w s
-less_link gone w s e = clash cc
+less_link gone w s e = cc
 less_link kept w s e = e
-less_link leaf_off w s e = clash cc
-less_link piece_off w s e = clash cc
+less_link leaf_off w s e = cc
+less_link piece_off w s e = cc
 
 pub less_leaf : {p q : Place} → Less p q → (w a : ℕ) (b : Bool) → p ≡ Leaf w a b → (c : Bool) × (q ≡ Leaf w a c)
-less_leaf gone w a b e = clash cc
+less_leaf gone w a b e = cc
 less_leaf kept w a b e = (b, e)
 less_leaf (leaf_off {b = c}) w a b e = (c, cc)
-less_leaf piece_off w a b e = clash cc
+less_leaf piece_off w a b e = cc
 
 pub less_piece : {p q : Place} → Less p q → (b : Bool) → p ≡ Piece b → (c : Bool) × (q ≡ Piece c)
-less_piece gone b e = clash cc
+less_piece gone b e = cc
 less_piece kept b e = (b, e)
-less_piece leaf_off b e = clash cc
+less_piece leaf_off b e = cc
 less_piece (piece_off {b = c}) b e = (c, refl)
 
 pub less_opens : {p q : Place} → Less p q → (j : ℕ) (x : Shadow) (g : ℕ) → opens j x g p ≡ true → opens j x g q ≡ true
-less_opens gone j x g e = untrue e
+less_opens gone j x g e = cc
 less_opens kept j x g e = e
-less_opens leaf_off j x g e = untrue e
-less_opens piece_off j Nothing g e = untrue e
-less_opens piece_off j (Directory f) g e = untrue e
-less_opens piece_off j (Table f y) g e = untrue e
-less_opens piece_off j (Split f) g e = untrue e
+less_opens leaf_off j x g e = cc
+less_opens piece_off j Nothing g e = cc
+less_opens piece_off j (Directory f) g e = cc
+less_opens piece_off j (Table f y) g e = cc
+less_opens piece_off j (Split f) g e = cc
 
 pub less_cond : (b : Bool) {p q : Place} → Less p q → Less (cond b Empty p) q
 less_cond true h = gone

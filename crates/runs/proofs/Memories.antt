@@ -6,7 +6,7 @@ use Rattle.paging.specs.Formats.{Format}
 use Rattle.walk.specs.Marking.{Write, put, put_all}
 use Rattle.runs.specs.Histories.{writes_to}
 use Rattle.runs.specs.Laws.{last_put, word_at, word_in}
-use Rattle.runs.proofs.Basics.{both_false, by_eq, by_eq₂, untrue}
+use Rattle.runs.proofs.Basics.{both_false, by_eq, by_eq₂}
 use Rattle.runs.proofs.Moments.{SmallWrites}
 use Rattle.runs.proofs.Sound.{Raises, Up, more, same}
 
@@ -14,7 +14,7 @@ use Rattle.runs.proofs.Sound.{Raises, Up, more, same}
 
 changed_same : (c : Contents) (i w : ℕ) → has_words c ≡ true → word_in (changed c i w) i ≡ w
 changed_same (words v) i w h = cond-true (eqb (i % frame_words) (i % frame_words)) w (v i) (eq-eqb _ _ refl)
-changed_same (cause c) i w h = untrue h
+changed_same (cause c) i w h = cc
 
 changed_other : (c : Contents) (i j w : ℕ) → i < 1024 → j < 1024 → (i ≡ j → ⊥) → word_in (changed c i w) j ≡ word_in c j
 changed_other (words v) i j w a b n = cond-false _ w (v j) (ne_eqb (j % frame_words) (i % frame_words) (λ e. n (sym (mod-eq_of_lt a) ∙ sym e ∙ mod-eq_of_lt b)))

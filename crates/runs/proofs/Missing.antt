@@ -23,7 +23,7 @@ use Rattle.runs.specs.Laws as laws_of
 use Rattle.runs.specs.Runs.{Bounded}
 use Rattle.runs.specs.Terms.{Through, hidden, page_of}
 use Rattle.runs.specs.Unit.{Running, Taken, Traced, count_in, hit_by, hit_target, linked, new_place, root_slot, store_traced, tell_path, traced, value_of}
-use Rattle.runs.proofs.Basics.{clash, elim_eq, untrue}
+use Rattle.runs.proofs.Basics.{elim_eq}
 use Rattle.runs.proofs.Counting.{tallied_more}
 use Rattle.runs.proofs.Good.{Fit, Good, Past, Then, refit}
 use Rattle.runs.proofs.Hitting.{large_hits, leaf_hit, own_flag, piece_hit, small_hits}
@@ -52,7 +52,7 @@ root_slot_is F m t q fit root i e = go (find_slot (thing.Directory root) t) refl
 
     go : (s : Option ℕ) → find_slot (thing.Directory root) t ≡ s → unwrap_or s 0 ≡ i
     go (Some k) z = fit.sound.unique k i (thing.Directory root) (find_some (thing.Directory root) t k fit.roomy z).0 yes_i
-    go None z = let u : true ≡ false = sym yes_i ∙ find_none (thing.Directory root) t z i in clash cc
+    go None z = let u : true ≡ false = sym yes_i ∙ find_none (thing.Directory root) t z i in cc
 
 -- like accesses hit alike
 hit_same : (F : Format) (a b : Asked) (c : Option Copied) → a.kind ≡ b.kind → a.privilege ≡ b.privilege → hit_by F b c ≡ hit_by F a c
@@ -141,8 +141,8 @@ module _ (F : Format) (a : Asked) (root f : ℕ) (n : Memory) where
   -- the directory's slot is another
   pub found_apart : {x : Thing} → Found F a root n f x → (i s : ℕ) (v : View) → v.sh i ≡ Directory root → shadows (v.sh s) x ≡ true → i ≡ s → ⊥
   found_apart (table g hg p z) i s v e q k =
-      let u = (is_table_at g (v.sh s) q).1 in let c : Directory root ≡ Table g (is_table_at g (v.sh s) q).0 = sym e ∙ ap v.sh k ∙ u in clash cc
-  found_apart (split g y z) i s v e q k = let c : Directory root ≡ Split g = sym e ∙ ap v.sh k ∙ is_split_at g (v.sh s) q in clash cc
+      let u = (is_table_at g (v.sh s) q).1 in let c : Directory root ≡ Table g (is_table_at g (v.sh s) q).0 = sym e ∙ ap v.sh k ∙ u in cc
+  found_apart (split g y z) i s v e q k = let c : Directory root ≡ Split g = sym e ∙ ap v.sh k ∙ is_split_at g (v.sh s) q in cc
 
   -- and the access hits once its place is written
   pub found_hits : {x : Thing} → Found F a root n f x → (t u : SlotTable) (i s : ℕ) → Bounded n → has_words (n f) ≡ true
@@ -162,7 +162,7 @@ module _ (F : Format) (a : Asked) (root f : ℕ) (n : Memory) where
         where
           go : (k < 4096) ⊎ (4096 ≤ k) → k < number_limit
           go (inl l) = omega arith
-          go (inr l) = let c : true ≡ false = sym e ∙ bounded k l in clash cc
+          go (inr l) = let c : true ≡ false = sym e ∙ bounded k l in cc
 
 -- THE ACCESS
 
@@ -331,7 +331,7 @@ module _ (F : Format) (laws : LawsOfMarking F) (R : Rule) (kept_order : OrdersKe
         ∙ ap (last_put f W marks) (last_is F o f W h (sym (has_at o h f) ∙ sym (raise.has f) ∙ target_has) (word_index_small a.address) good.raised));
     marked = λ u. by_root;
     present = λ u. by_root;
-    exit = λ recent. untrue (sym (ap is_some none) ∙ good.ready a recent);
+    exit = λ recent. cc (good.ready a recent);
   }
     where
       by_root : guest_walk F a (root_at o h) m ≡ to f marks

@@ -19,7 +19,6 @@ use Rattle.slot.specs.declared.slots.SyncState.TheVariants.{Protected, Unsynchro
 use Rattle.slot.specs.declared.slots.Thing.{Thing}
 use Rattle.runs.specs.Laws.{word_at}
 use Rattle.runs.specs.Unit.{frame_list, listed, resync, table_frame}
-use Rattle.runs.proofs.Basics.{clash, untrue}
 use Rattle.runs.proofs.Shadows.{nothing_shadows}
 use Rattle.runs.proofs.Views.{Roomy, View, guard_at, unlink_at, v_check, v_checked, v_drop, v_evict, v_fill, v_flag_off, v_guard, v_put, v_sync, view}
 
@@ -70,7 +69,7 @@ small_slot t i r e = go (cases_lt i 8)
   where
     go : (i < 8) ⊎ (8 ≤ i) → i < 8
     go (inl k) = k
-    go (inr k) = untrue (sym e ∙ ap (λ (s : Slot). is_nothing s.shadow) (get_or_past t.slots i no_slot (rw r.slots k)))
+    go (inr k) = cc (ap (λ (s : Slot). is_nothing s.shadow) (get_or_past t.slots i no_slot (rw r.slots k)))
 
 -- GUARDING
 
@@ -95,7 +94,7 @@ module _ (f : ℕ) (s : Slot) where
 
       outside : in_split f g ≡ false → (g + j < g + 1024) ⊎ (g + 1024 ≤ g + j) → (g + j ≡ f) ⊎ (g + j ≡ f → ⊥) → get_or s.places j Empty ≡ cond (eqb (g + j) f) (flag_off (get_or s.places j Empty)) (get_or s.places j Empty)
       outside e c (inr n) = ap (λ b. cond b (flag_off (get_or s.places j Empty)) (get_or s.places j Empty)) (sym (ne_eqb (g + j) f n))
-      outside e (inl h) (inl q) = untrue (sym e ∙ and_from (leb g f) (ltb f (g + 1024)) (le-leb g f (omega arith)) (lt-ltb f (g + 1024) (omega arith)))
+      outside e (inl h) (inl q) = cc (and_from (leb g f) (ltb f (g + 1024)) (le-leb g f (omega arith)) (lt-ltb f (g + 1024) (omega arith)))
       outside e (inr h) (inl q) = let none : get_or s.places j Empty ≡ Empty = past (omega arith) in none ∙ sym (ap (λ x. cond (eqb (g + j) f) (flag_off x) x) none ∙ stays)
 
       go : (b : Bool) → in_split f g ≡ b → get_or (cond b (change_place (f - g) flag_off s) s).places j Empty ≡ cond (eqb (g + j) f) (flag_off (get_or s.places j Empty)) (get_or s.places j Empty)
@@ -184,7 +183,7 @@ module _ (p : ℕ → Slot → Bool) where
     passes : p i (get_or ss step no_slot) ≡ true
 
   first_some : (k : ℕ) (ss : List Slot) (i : ℕ) → first_from p k ss ≡ Some i → Found k ss i
-  first_some k [] i e = clash cc
+  first_some k [] i e = cc
   first_some k (s ∷ ss) i e = go (p k s) refl (first_some (suc k) ss i) e
     where
       go : (b : Bool) → p k s ≡ b → (first_from p (suc k) ss ≡ Some i → Found (suc k) ss i) → cond b (Some k) (first_from p (suc k) ss) ≡ Some i → Found k (s ∷ ss) i
@@ -196,7 +195,7 @@ module _ (p : ℕ → Slot → Bool) where
   first_none k (s ∷ ss) e j n is h = go (p k s) refl (first_none (suc k) ss) e j is h
     where
       go : (b : Bool) → p k s ≡ b → (first_from p (suc k) ss ≡ None → (j n : ℕ) → suc k + j ≡ n → j < length ss → p n (get_or ss j no_slot) ≡ false) → cond b (Some k) (first_from p (suc k) ss) ≡ None → (j : ℕ) → k + j ≡ n → j < suc (length ss) → p n (get_or (s ∷ ss) j no_slot) ≡ false
-      go true q later e j is h = clash cc
+      go true q later e j is h = cc
       go false q later e zero is h = let same : k ≡ n = omega arith in subst (λ (m : ℕ). p m s ≡ false) same q
       go false q later e (suc j) is h = later e j n (omega arith) (omega arith)
 
@@ -218,7 +217,7 @@ module _ (q : Shadow → Bool) (t : SlotTable) where
   slot_some = go (first_from (λ k s. q s.shadow) 0 t.slots) refl
     where
       go : (o : Option ℕ) → first_from (λ k s. q s.shadow) 0 t.slots ≡ o → is_some o ≡ true → (i : ℕ) × (q (shadow_at i t) ≡ true)
-      go None e z = untrue z
+      go None e z = absurd cc
       go (Some i) e z = (i, (slot_found i e).0)
 
   slot_none : q Nothing ≡ false → is_some (first_from (λ k s. q s.shadow) 0 t.slots) ≡ false → (k : ℕ) → q (shadow_at k t) ≡ false
@@ -226,7 +225,7 @@ module _ (q : Shadow → Bool) (t : SlotTable) where
     where
       go : (o : Option ℕ) → first_from (λ k s. q s.shadow) 0 t.slots ≡ o → is_some o ≡ false → (k : ℕ) → q (shadow_at k t) ≡ false
       go None e z = slot_missed n e
-      go (Some i) e z = untrue (sym z)
+      go (Some i) e z = cc
 
 pub find_some : (x : Thing) (t : SlotTable) (i : ℕ) → Roomy t → find_slot x t ≡ Some i → (shadows (shadow_at i t) x ≡ true) × (i < 8)
 find_some x t i r e = let k = slot_found (λ y. shadows y x) t i e in (k.0, subst (λ (n : ℕ). i < n) r.slots k.1)
@@ -282,7 +281,7 @@ module _ (r : Option ℕ) (t : SlotTable) (i : ℕ) where
     where
       go : (i < 8) ⊎ (8 ≤ i) → may_take r t i ≡ true
       go (inl h) = sym (permitted_at h) ∙ e
-      go (inr h) = untrue (sym (get_or_past (permitted r t) i false h) ∙ e)
+      go (inr h) = cc (get_or_past (permitted r t) i false h)
 
 -- FILLING AND PUTTING
 

@@ -11,7 +11,7 @@ use Rattle.shadow.specs.declared.slots.SlotTable.{SlotTable}
 use Rattle.slot.specs.declared.slots.SyncState.TheVariants.{Protected, Unsynchronised}
 use Rattle.slot.specs.declared.slots.Thing.{Thing}
 use Rattle.runs.specs.Unit.{resync, resync_all, resync_each}
-use Rattle.runs.proofs.Basics.{by_eq, clash}
+use Rattle.runs.proofs.Basics.{by_eq}
 use Rattle.runs.proofs.Fewer.{Fewer, fewer_check, fewer_same, fewer_trans}
 use Rattle.runs.proofs.Good.{Fit, refit}
 use Rattle.runs.proofs.Places.{count_resync, resync_checked, resync_kept, roomy_resync, small_slot}
@@ -53,7 +53,7 @@ module _ (m : Memory) (i f : ℕ) (v : View) where
   unfolding v_check v_guard
   check_vacant at k e =
       by_eq k i (λ b. cond b (Table f Protected) (v.sh k) ≡ Nothing)
-      (λ q. let z : Nothing ≡ Table f Unsynchronised = sym e ∙ ap v.sh q ∙ at in clash cc) (λ n. e)
+      (λ q. let z : Nothing ≡ Table f Unsynchronised = sym e ∙ ap v.sh q ∙ at in cc) (λ n. e)
 
 module _ (F : Format) (m : Memory) where
   pub record Resynced (t : SlotTable) (q : List ℕ) (i : ℕ) (n : SlotTable) : Type 0 where
@@ -94,7 +94,7 @@ module _ (F : Format) (m : Memory) where
       go Nothing q = ap lags q
       go (Directory f) q = ap lags q
       go (Table f Protected) q = ap lags q
-      go (Table f Unsynchronised) q = let z : true ≡ false = sym (ap lags (u.fewer.lagging k f q)) ∙ e in clash cc
+      go (Table f Unsynchronised) q = let z : true ≡ false = sym (ap lags (u.fewer.lagging k f q)) ∙ e in cc
       go (Split f) q = ap lags q
 
   -- all of a list are checked in turn

@@ -1,6 +1,6 @@
 -- Every run is good, from its opening on, and so every call answers by the laws.
 use Rattle.std.proofs.Common.{◌≡◌, ℕ, zero, suc, ◌+◌, ◌<◌, ◌≤◌, Bool, true, false, cond, ◌||◌, ltb, [], is_some, Some, None, Option, sym, refl, ap, ◌∙◌, subst, ap₂, ⊎_elim, arith}
-use Rattle.std.proofs.lemmas.Bool.{cases_eq, eq-eqb, ne_eqb}
+use Rattle.std.proofs.lemmas.Bool.{cases_eq, eq-eqb, false≢true, ne_eqb}
 use Rattle.memory.specs.Memory.{Memory, has_words, stored}
 use Rattle.paging.specs.Formats.{Format, LawsOfMarking}
 use Rattle.paging.specs.Terms.{supervisor}
@@ -15,7 +15,6 @@ use Rattle.runs.specs.Laws.{DoneBy, LawfulReply, Recent, after_call}
 use Rattle.runs.specs.Runs.{Bounded, CallsLawful, Run, goes, opened}
 use Rattle.runs.specs.Terms.{Call, access, close_run, deliver, done, flush_all, flush_page, give_up, no_exit, open_run, poke, set_mode, switch_root}
 use Rattle.runs.specs.Unit.{Ended, Running, State, Taken, no_tallies, opened_at, refuse, step, step_in, take_slot}
-use Rattle.runs.proofs.Basics.{clash, untrue}
 use Rattle.runs.proofs.Counting.{tallied_none}
 use Rattle.runs.proofs.Calls.{call_fine}
 use Rattle.runs.proofs.Good.{Fit, Good}
@@ -42,14 +41,14 @@ module _ (F : Format) (m : Memory) (n : ℕ) where
   -- empty slots are sound
   fresh_sound : Sound F m (view (fresh n))
   fresh_sound = record {
-    unique = λ i k x p q. untrue (sym (ap (λ y. shadows y x) (fresh_shadow i n) ∙ nothing_shadows x) ∙ p);
+    unique = λ i k x p q. cc (fresh_shadow i n, nothing_shadows x);
     backed = λ i. subst (Backed m) (sym (fresh_shadow i n)) tt;
     within = λ i j l. fresh_place i j n;
-    links = λ i d w s e. let c : Empty ≡ Link w s = sym (fresh_place i d n) ∙ e in clash cc;
-    leaves = λ i j w a b e. let c : Empty ≡ Leaf w a b = sym (fresh_place i j n) ∙ e in clash cc;
-    pieces = λ i j b e. let c : Empty ≡ Piece b = sym (fresh_place i j n) ∙ e in clash cc;
-    shut = λ i j g k e. untrue (sym (ap (λ p. opens j (shadow_at i (fresh n)) g p) (fresh_place i j n)) ∙ e);
-    apart = λ i k f e q. let c : Nothing ≡ Directory f = sym (fresh_shadow k n) ∙ q in clash cc;
+    links = λ i d w s e. let c : Empty ≡ Link w s = sym (fresh_place i d n) ∙ e in cc;
+    leaves = λ i j w a b e. let c : Empty ≡ Leaf w a b = sym (fresh_place i j n) ∙ e in cc;
+    pieces = λ i j b e. let c : Empty ≡ Piece b = sym (fresh_place i j n) ∙ e in cc;
+    shut = λ i j g k e. absurd (false≢true (sym (ap (λ p. opens j (shadow_at i (fresh n)) g p) (fresh_place i j n)) ∙ e));
+    apart = λ i k f e q. let c : Nothing ≡ Directory f = sym (fresh_shadow k n) ∙ q in cc;
   }
 
   fresh_fit : 2 ≤ n → n ≤ 8 → Fit F m (fresh n) (numbered n)
@@ -90,11 +89,11 @@ module _ (F : Format) (laws : LawsOfMarking F) (R : Rule) (kept_order : OrdersKe
             mode = refl;
             fit = first.fit;
             rooted = ap (λ (i : ℕ). shadow_at i K.table) (root_slot_is F o.memory K.table K.order first.fit root K.slot at) ∙ at;
-            were = λ i f z never. ⊎_elim (λ q. let c : Nothing ≡ Directory f = sym (fresh_shadow i n) ∙ q in clash cc) (λ q. let c : root ≡ f = cc in never c) (first.dirs i f z);
+            were = λ i f z never. ⊎_elim (λ q. let c : Nothing ≡ Directory f = sym (fresh_shadow i n) ∙ q in cc) (λ q. let c : root ≡ f = cc in never c) (first.dirs i f z);
             raised = tt;
             tallied = tallied_none;
             bounded = bounded;
-            past = λ i b w s f x c z q link lag leaf. let c : Empty ≡ Link w s = sym (fresh_place i _ n) ∙ first.fewer.links i _ w s link in clash cc;
+            past = λ i b w s f x c z q link lag leaf. let c : Empty ≡ Link w s = sym (fresh_place i _ n) ∙ first.fewer.links i _ w s link in cc;
             ready = λ a z. silent _ _ _ z;
           }),
         )
@@ -107,7 +106,7 @@ module _ (F : Format) (laws : LawsOfMarking F) (R : Rule) (kept_order : OrdersKe
   step_next h s c good e = go s.run refl
     where
       go : (x : Option Running) → s.run ≡ x → LawfulReply F o h c (step R F s c).reply × GoodState (after_call o h c (step R F s c).reply) (step R F s c).next
-      go None q = untrue (sym (ap is_some q) ∙ e)
+      go None q = absurd cc
       go (Some r) q =
           let k = good r q in
           subst (λ (y : State). LawfulReply F o h c (step R F y c).reply × GoodState (after_call o h c (step R F y c).reply) (step R F y c).next)

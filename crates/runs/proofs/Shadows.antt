@@ -1,6 +1,6 @@
 -- What tests of a shadow say, what shadows a thing, and what a directory's word names.
-use Rattle.std.proofs.Common.{◌≡◌, ℕ, Bool, true, false, cond, ◌&&◌, eqb, sym, refl, ap, ◌∙◌}
-use Rattle.std.proofs.lemmas.Bool.{and_parts, eq-eqb, eqb-true}
+use Rattle.std.proofs.Common.{◌≡◌, ℕ, Bool, true, false, cond, eqb, sym, refl, ap, ◌∙◌}
+use Rattle.std.proofs.lemmas.Bool.{and_parts, eq-eqb, eqb-true, false_from_ne_true}
 use Rattle.memory.specs.Answers.{Answer}
 use Rattle.paging.specs.Terms.{is_table}
 use Rattle.slot.specs.Slot.{is_directory_of, is_nothing, is_split_of, is_table_of, lags, protects, shadow_of, shadows, with_sync}
@@ -11,34 +11,25 @@ use Rattle.slot.specs.declared.slots.SyncState.TheVariants.{Protected, Unsynchro
 use Rattle.slot.specs.declared.slots.Thing.{Thing}
 use Rattle.slot.specs.declared.slots.Thing.TheVariants as thing
 use Rattle.runs.specs.Unit.{thing_named}
-use Rattle.runs.proofs.Basics.{clash, not_yes, untrue}
 use Rattle.runs.proofs.Sound.{guards}
 
 -- TESTS
 
 pub is_nothing_at : (x : Shadow) → is_nothing x ≡ true → x ≡ Nothing
 is_nothing_at Nothing e = refl
-is_nothing_at (Directory f) e = untrue e
-is_nothing_at (Table f y) e = untrue e
-is_nothing_at (Split f) e = untrue e
+is_nothing_at x e = cc
 
 pub is_directory_at : (f : ℕ) (x : Shadow) → is_directory_of f x ≡ true → x ≡ Directory f
-is_directory_at f Nothing e = untrue e
 is_directory_at f (Directory g) e = ap Directory (eqb-true g f e)
-is_directory_at f (Table g y) e = untrue e
-is_directory_at f (Split g) e = untrue e
+is_directory_at f x e = cc
 
 pub is_table_at : (f : ℕ) (x : Shadow) → is_table_of f x ≡ true → (y : SyncState) × (x ≡ Table f y)
-is_table_at f Nothing e = untrue e
-is_table_at f (Directory g) e = untrue e
 is_table_at f (Table g y) e = (y, ap (λ (n : ℕ). Table n y) (eqb-true g f e))
-is_table_at f (Split g) e = untrue e
+is_table_at f x e = absurd cc
 
 pub is_split_at : (f : ℕ) (x : Shadow) → is_split_of f x ≡ true → x ≡ Split f
-is_split_at f Nothing e = untrue e
-is_split_at f (Directory g) e = untrue e
-is_split_at f (Table g y) e = untrue e
 is_split_at f (Split g) e = ap Split (eqb-true g f e)
+is_split_at f x e = cc
 
 pub directory_here : (f : ℕ) → is_directory_of f (Directory f) ≡ true
 directory_here f = eq-eqb f f refl
@@ -54,19 +45,15 @@ same_table a b y z x p q = cc
 
 -- what protects a frame is a protected table of it
 pub protected_table : (f : ℕ) (x : Shadow) → protects f x ≡ true → x ≡ Table f Protected
-protected_table f Nothing e = untrue e
-protected_table f (Directory g) e = untrue e
 protected_table f (Table g Protected) e = ap (λ (n : ℕ). Table n Protected) (eqb-true g f (and_parts (eqb g f) true e).0)
-protected_table f (Table g Unsynchronised) e = untrue (and_parts (eqb g f) false e).1
-protected_table f (Split g) e = untrue e
+protected_table f (Table g Unsynchronised) e = cc (and_parts (eqb g f) false e).1
+protected_table f x e = cc
 
 -- a frame that no directory and no protected table shadows is not guarded
 pub unguarded : (f : ℕ) (x : Shadow) → is_directory_of f x ≡ false → protects f x ≡ false → guards f x ≡ false
-unguarded f Nothing p q = refl
 unguarded f (Directory g) p q = p
-unguarded f (Table g Protected) p q = not_yes (eqb g f) (λ e. clash (cc (sym (ap (λ b. b && true) e) ∙ q)))
-unguarded f (Table g Unsynchronised) p q = refl
-unguarded f (Split g) p q = refl
+unguarded f (Table g Protected) p q = false_from_ne_true (eqb g f) (λ e. cc)
+unguarded f x p q = refl
 
 -- THINGS
 
@@ -77,10 +64,8 @@ nothing_shadows (thing.Split f) = refl
 
 -- what shadows a thing is not nothing
 pub filled : (x : Shadow) (t : Thing) → shadows x t ≡ true → is_nothing x ≡ false
-filled Nothing t e = untrue (sym (nothing_shadows t) ∙ e)
-filled (Directory f) t e = refl
-filled (Table f y) t e = refl
-filled (Split f) t e = refl
+filled Nothing t e = cc (nothing_shadows t)
+filled x t e = refl
 
 -- how a slot shadows a thing at first
 pub new_shadows : (x : Thing) → shadows (shadow_of x) x ≡ true
@@ -94,24 +79,18 @@ new_calm (thing.Table f) = refl
 new_calm (thing.Split f) = refl
 
 pub new_protected : (x : Thing) (f : ℕ) → shadow_of x ≡ Table f Unsynchronised → ⊥
-new_protected x f e = untrue (sym (new_calm x) ∙ ap lags e)
+new_protected x f e = cc (new_calm x)
 
 pub new_directory : (x : Thing) (f : ℕ) → shadow_of x ≡ Directory f → x ≡ thing.Directory f
 new_directory (thing.Directory g) f e = let z : g ≡ f = cc in ap thing.Directory z
-new_directory (thing.Table g) f e = clash cc
-new_directory (thing.Split g) f e = clash cc
+new_directory x f e = cc
 
 -- it is of that thing alone
 pub new_only : (x y : Thing) → shadows (shadow_of x) y ≡ true → x ≡ y
 new_only (thing.Directory f) (thing.Directory g) e = ap thing.Directory (eqb-true f g e)
-new_only (thing.Directory f) (thing.Table g) e = untrue e
-new_only (thing.Directory f) (thing.Split g) e = untrue e
-new_only (thing.Table f) (thing.Directory g) e = untrue e
 new_only (thing.Table f) (thing.Table g) e = ap thing.Table (eqb-true f g e)
-new_only (thing.Table f) (thing.Split g) e = untrue e
-new_only (thing.Split f) (thing.Directory g) e = untrue e
-new_only (thing.Split f) (thing.Table g) e = untrue e
 new_only (thing.Split f) (thing.Split g) e = ap thing.Split (eqb-true f g e)
+new_only x y e = cc
 
 -- WHAT A WORD NAMES
 
@@ -124,17 +103,17 @@ named_table r f y e = go (is_table r) refl
   where
     go : (b : Bool) → is_table r ≡ b → (is_table r ≡ true) × (r.value ≡ f)
     go true q = (q, sym (eqb-true f r.value (ap (shadows (Table f y)) (sym (named_by r true q)) ∙ e)))
-    go false q = untrue (ap (shadows (Table f y)) (sym (named_by r false q)) ∙ e)
+    go false q = absurd (cc (ap (shadows (Table f y)) (sym (named_by r false q)) ∙ e))
 
 pub named_split : (r : Answer) (f : ℕ) → shadows (Split f) (thing_named r) ≡ true → (is_table r ≡ false) × (r.value ≡ f)
 named_split r f e = go (is_table r) refl
   where
     go : (b : Bool) → is_table r ≡ b → (is_table r ≡ false) × (r.value ≡ f)
-    go true q = untrue (ap (shadows (Split f)) (sym (named_by r true q)) ∙ e)
+    go true q = absurd (cc (ap (shadows (Split f)) (sym (named_by r true q)) ∙ e))
     go false q = (q, sym (eqb-true f r.value (ap (shadows (Split f)) (sym (named_by r false q)) ∙ e)))
 
 pub named_no_directory : (r : Answer) (f : ℕ) → shadows (Directory f) (thing_named r) ≡ true → ⊥
-named_no_directory r f = elim (is_table r) as (λ b. shadows (Directory f) (cond b (thing.Table r.value) (thing.Split r.value)) ≡ true → ⊥) [ true ↦ untrue | false ↦ untrue ]
+named_no_directory r f = elim (is_table r) as (λ b. shadows (Directory f) (cond b (thing.Table r.value) (thing.Split r.value)) ≡ true → ⊥) [ true ↦ λ e. cc | false ↦ λ e. cc ]
 
 -- THE STATE OF A TABLE
 
@@ -155,11 +134,11 @@ alike_shadows state (thing.Split g) = refl
 
 pub alike_directory : {x y : Shadow} → Alike x y → (r : ℕ) → y ≡ Directory r → x ≡ Directory r
 alike_directory as_is r e = e
-alike_directory state r e = clash cc
+alike_directory state r e = cc
 
 pub alike_split : {x y : Shadow} → Alike x y → (f : ℕ) → y ≡ Split f → x ≡ Split f
 alike_split as_is f e = e
-alike_split state f e = clash cc
+alike_split state f e = cc
 
 pub alike_table : {x y : Shadow} → Alike x y → (f : ℕ) (s : SyncState) → y ≡ Table f s → (t : SyncState) × (x ≡ Table f t)
 alike_table as_is f s e = (s, e)

@@ -14,7 +14,7 @@ use Rattle.slot.specs.declared.slots.SyncState.TheVariants.{Protected, Unsynchro
 use Rattle.slot.specs.declared.slots.Thing.{Thing}
 use Rattle.slot.specs.declared.slots.Thing.TheVariants as thing
 use Rattle.runs.specs.Laws.{word_at}
-use Rattle.runs.proofs.Basics.{by_eq, by_eq₂, clash, cond_other, elim_eq, untrue}
+use Rattle.runs.proofs.Basics.{by_eq, by_eq₂, cond_other, elim_eq}
 use Rattle.runs.proofs.Losses.{Less, checked_less, guard_at_less, kept, less_cond, less_empty, less_leaf, less_link, less_opens, less_piece, unlink_less}
 use Rattle.runs.proofs.Memories.{has_stored, up_trans, word_stored_other}
 use Rattle.runs.proofs.Shadows.{Alike, alike_directory, alike_shadows, alike_split, alike_sym, alike_table, as_is, new_only, new_protected, nothing_shadows, same_directory, same_table, state, sync_alike, table_here}
@@ -124,11 +124,11 @@ module _ (F : Format) (m : Memory) (v : View) where
       go : (x : Shadow) (p : Place) → v.sh i ≡ x → v.pl i j ≡ p → opens j x f (guard_at f j x p) ≡ false
       go Nothing Empty e q = refl
       go Nothing (Link w s) e q = refl
-      go Nothing (Leaf w a b) e q = leaf_in w a b q Nothing e (b && eqb a f) (λ g y z. clash cc)
+      go Nothing (Leaf w a b) e q = leaf_in w a b q Nothing e (b && eqb a f) (λ g y z. cc)
       go Nothing (Piece b) e q = refl
       go (Directory r) Empty e q = refl
       go (Directory r) (Link w s) e q = refl
-      go (Directory r) (Leaf w a b) e q = leaf_in w a b q (Directory r) e (b && eqb a f) (λ g y z. clash cc)
+      go (Directory r) (Leaf w a b) e q = leaf_in w a b q (Directory r) e (b && eqb a f) (λ g y z. cc)
       go (Directory r) (Piece b) e q = refl
       go (Table g y) Empty e q = refl
       go (Table g y) (Link w s) e q = refl
@@ -137,7 +137,7 @@ module _ (F : Format) (m : Memory) (v : View) where
       go (Table g y) (Piece b) e q = refl
       go (Split g) Empty e q = elim (eqb (g + j) f) as (λ t. opens j (Split g) f (cond t Empty Empty) ≡ false) [ true ↦ refl | false ↦ refl ]
       go (Split g) (Link w s) e q = elim (eqb (g + j) f) as (λ t. opens j (Split g) f (cond t (Link w s) (Link w s)) ≡ false) [ true ↦ refl | false ↦ refl ]
-      go (Split g) (Leaf w a b) e q = leaf_in w a b q (Split g) e (opens j (Split g) f (guard_at f j (Split g) (Leaf w a b))) (λ h y z. clash cc)
+      go (Split g) (Leaf w a b) e q = leaf_in w a b q (Split g) e (opens j (Split g) f (guard_at f j (Split g) (Leaf w a b))) (λ h y z. cc)
       go (Split g) (Piece b) e q =
           elim_eq (eqb (g + j) f) (λ t. opens j (Split g) f (cond t (Piece false) (Piece b)) ≡ false) (λ t. refl) (λ t. and_right b (eqb (g + j) f) t)
 
@@ -150,7 +150,7 @@ module _ (F : Format) (m : Memory) (v : View) where
   guard_almost f fr shut = flagged (guard_framed fr f) (λ i j g k e. shuts i j g k e (cases_eq g f))
     where
       shuts : (i j g k : ℕ) → opens j ((v_guard f v).sh i) g ((v_guard f v).pl i j) ≡ true → (g ≡ f) ⊎ (g ≡ f → ⊥) → guards g ((v_guard f v).sh k) ≡ false
-      shuts i j g k e (inl q) = untrue (sym (shut_framed fr f i j) ∙ subst (λ x. opens j ((v_guard f v).sh i) x ((v_guard f v).pl i j) ≡ true) q e)
+      shuts i j g k e (inl q) = cc (shut_framed fr f i j)
       shuts i j g k e (inr q) = shut i j g k q (guard_less v f i j g e)
 
 -- STORES
@@ -164,10 +164,10 @@ module _ (F : Format) (m : Memory) (v : View) (sound : Sound F m v) where
       go (inr h) = absurd (stands (sound.within i j h))
 
   link_inside : (i j w s : ℕ) → v.pl i j ≡ Link w s → j < 1024
-  link_inside i j w s e = inside i j (λ z. clash cc)
+  link_inside i j w s e = inside i j (λ z. cc)
 
   leaf_inside : (i j w a : ℕ) (b : Bool) → v.pl i j ≡ Leaf w a b → j < 1024
-  leaf_inside i j w a b e = inside i j (λ z. clash cc)
+  leaf_inside i j w a b e = inside i j (λ z. cc)
 
   pub sound_raise : (n : Memory) → Raises F m n → Sound F n v
   sound_raise n ra = flagged (framed_alike F m n v v (framed sound) ra.has (λ k. as_is) (λ i j. kept)
@@ -180,8 +180,8 @@ module _ (F : Format) (m : Memory) (v : View) (sound : Sound F m v) where
 
   pub sound_store : (g i w : ℕ) → i < 1024 → ((k : ℕ) → guards g (v.sh k) ≡ false) → Sound F (stored m g i w) v
   sound_store g i w h free = flagged (framed_alike F m _ v v (framed sound) (has_stored m g i w) (λ k. as_is) (λ a j. kept)
-      (λ a j r x s e d p. moved g i w r j x h (link_inside a j x s e) (λ z. untrue (sym (free a) ∙ ap (guards g) d ∙ eq-eqb r g z.0)) p)
-      (λ a j f x b c e d p. moved g i w f j x h (leaf_inside a j x b c e) (λ z. untrue (sym (free a) ∙ ap (guards g) d ∙ eq-eqb f g z.0)) (p d))
+      (λ a j r x s e d p. moved g i w r j x h (link_inside a j x s e) (λ z. cc (free a, eq-eqb r g z.0)) p)
+      (λ a j f x b c e d p. moved g i w f j x h (leaf_inside a j x b c e) (λ z. cc (free a, eq-eqb f g z.0)) (p d))
       sound.apart) sound.shut
 
   drop_less : (g i k l : ℕ) → Less ((v_drop g i v).pl k l) (v.pl k l)
@@ -196,8 +196,8 @@ module _ (F : Format) (m : Memory) (v : View) (sound : Sound F m v) where
   pub sound_directory_store : (g i w : ℕ) → i < 1024 → Sound F (stored m g i w) (v_drop g i v)
   unfolding v_drop
   sound_directory_store g i w h = flagged (framed_alike F m _ v (v_drop g i v) (framed sound) (has_stored m g i w) (λ k. as_is) (drop_less g i)
-      (λ a j r x s e d p. moved g i w r j x h (link_inside a j x s (less_link (drop_less g i a j) x s e)) (drop_other g i a j r (ap (copies g) d) (λ z. clash cc)) p)
-      (λ a j f x b c e d p. let l = less_leaf (drop_less g i a j) x b c e in moved g i w f j x h (leaf_inside a j x b l.0 l.1) (drop_other g i a j f (ap (copies g) d) (λ z. clash cc)) (p d))
+      (λ a j r x s e d p. moved g i w r j x h (link_inside a j x s (less_link (drop_less g i a j) x s e)) (drop_other g i a j r (ap (copies g) d) (λ z. cc)) p)
+      (λ a j f x b c e d p. let l = less_leaf (drop_less g i a j) x b c e in moved g i w f j x h (leaf_inside a j x b l.0 l.1) (drop_other g i a j f (ap (copies g) d) (λ z. cc)) (p d))
       sound.apart) (λ a j f k e. sound.shut a j f k (less_opens (drop_less g i a j) j (v.sh a) f e))
 
   -- UNSYNCHRONISED TABLES
@@ -233,7 +233,7 @@ module _ (F : Format) (m : Memory) (v : View) (sound : Sound F m v) where
         protected false x f e = e
         protected true Nothing f e = e
         protected true (Directory r) f e = e
-        protected true (Table h z) f e = clash cc
+        protected true (Table h z) f e = cc
         protected true (Split h) f e = e
 
         fewer : (b : Bool) (x : Shadow) (f : ℕ) → guards f x ≡ false → guards f (cond b (with_sync Unsynchronised x) x) ≡ false
@@ -250,7 +250,7 @@ module _ (F : Format) (m : Memory) (v : View) (sound : Sound F m v) where
 
         not_both : (n f : ℕ) → {i : ℕ} → (v.sh i ≡ Table f Unsynchronised) ⊎ (f ≡ g) → v.sh n ≡ Directory f → ⊥
         not_both n f (inl e) d = sound.apart _ n f e d
-        not_both n f (inr e) d = untrue (sym (none n) ∙ ap (is_directory_of g) d ∙ eq-eqb f g e)
+        not_both n f (inr e) d = cc (none n, eq-eqb f g e)
 
 -- NEW PLACES
 
@@ -297,7 +297,7 @@ module _ (F : Format) (m : Memory) where
 
     pub sound_link : (i r d w s : ℕ) → v.sh i ≡ Directory r → d < 1024 → Leads F w → shadows (v.sh s) (named F w) ≡ true → Up F w (word_at m r d) → Sound F m (v_put i d (Link w s) v)
     sound_link i r d w s is h leads names up =
-        sound_put i d (Link w s) (λ k. absurd (omega arith)) (record { root = r; is = is; leads = leads; names = names; up = up }) (λ g k e. untrue e)
+        sound_put i d (Link w s) (λ k. absurd (omega arith)) (record { root = r; is = is; leads = leads; names = names; up = up }) (λ g k e. cc)
 
     pub sound_leaf : (i f : ℕ) (y : SyncState) (j w a : ℕ) (b : Bool) → v.sh i ≡ Table f y → j < 1024 → Pages F w a → has_words (m a) ≡ true
         → (y ≡ Protected → Up F w (word_at m f j)) → (b ≡ true → (k : ℕ) → guards a (v.sh k) ≡ false) → Sound F m (v_put i j (Leaf w a b) v)
@@ -311,7 +311,7 @@ module _ (F : Format) (m : Memory) where
         (λ g k e. let z = and_parts b (eqb (f + j) g) (rw is at e) in subst (λ x. guards x (v.sh k) ≡ false) (eqb-true (f + j) g z.1) (free z.0 k))
 
     pub sound_empty : (i j : ℕ) → Sound F m (v_put i j Empty v)
-    sound_empty i j = sound_put i j Empty (λ h. refl) tt (λ g k e. untrue e)
+    sound_empty i j = sound_put i j Empty (λ h. refl) tt (λ g k e. cc)
 
 pub sync_put : (v : View) (k : ℕ) (y : SyncState) (i j : ℕ) (p : Place) → v_sync k y (v_put i j p v) ≡ v_put i j p (v_sync k y v)
 unfolding v_sync v_put
@@ -331,11 +331,11 @@ pub checked_alike : (m : Memory) (i f : ℕ) (y : SyncState) (v : View) → v.sh
 checked_alike m i f y v at k = by_eq k i (λ b. Alike (cond b (Table f Protected) (v.sh k)) (v.sh k)) (λ q. subst (Alike (Table f Protected)) (sym (ap v.sh q ∙ at)) state) (λ q. as_is)
 
 check_word : (w : ℕ) (p : Place) (x a : ℕ) (b : Bool) → check_place w p ≡ Leaf x a b → x ≡ w
-check_word w Empty x a b e = clash cc
-check_word w (Link v s) x a b e = clash cc
+check_word w Empty x a b e = cc
+check_word w (Link v s) x a b e = cc
 check_word w (Leaf v f c) x a b e =
-    by_eq v w (λ t. cond t (Leaf v f c) Empty ≡ Leaf x a b → x ≡ w) (λ p q. let z : v ≡ x = cc in sym z ∙ p) (λ p q. clash cc) e
-check_word w (Piece c) x a b e = clash cc
+    by_eq v w (λ t. cond t (Leaf v f c) Empty ≡ Leaf x a b → x ≡ w) (λ p q. let z : v ≡ x = cc in sym z ∙ p) (λ p q. cc) e
+check_word w (Piece c) x a b e = cc
 
 module _ (F : Format) (m : Memory) (v : View) (sound : Sound F m v) where
   pub sound_check : (i f : ℕ) (y : SyncState) → v.sh i ≡ Table f y → Sound F m (v_check m i f v)
@@ -361,7 +361,7 @@ module _ (F : Format) (m : Memory) (v : View) (sound : Sound F m v) where
           (λ q e d p. let z : f ≡ g = cc in subst (λ x. Up F w (word_at m x j)) z (subst (λ x. Up F w x) (check_word (word_at m f j) (v.pl k j) w a b e) same)) (λ q e d p. p d)
 
       unsync : (k g : ℕ) → cond (eqb k i) (Table f Protected) (v.sh k) ≡ Table g Unsynchronised → v.sh k ≡ Table g Unsynchronised
-      unsync k g = cond_other (eqb k i) (λ e. clash cc)
+      unsync k g = cond_other (eqb k i) (λ e. cc)
 
       more_guards : (g k : ℕ) → (g ≡ f → ⊥) → guards g (v.sh k) ≡ false → guards g (cond (eqb k i) (Table f Protected) (v.sh k)) ≡ false
       more_guards g k q e = elim (eqb k i) as (λ b. guards g (cond b (Table f Protected) (v.sh k)) ≡ false) [ true ↦ ne_eqb f g (λ z. q (sym z)) | false ↦ e ]
@@ -370,10 +370,10 @@ module _ (F : Format) (m : Memory) (v : View) (sound : Sound F m v) where
 
 -- no link to slot i is left
 unlinked : (i w s : ℕ) (p : Place) → unlink_place i p ≡ Link w s → s ≡ i → ⊥
-unlinked i w s Empty e q = clash cc
-unlinked i w s (Link x t) e q = by_eq t i (λ b. cond b Empty (Link x t) ≡ Link w s → ⊥) (λ z d. clash cc) (λ z d. let y : t ≡ s = cc in z (y ∙ q)) e
-unlinked i w s (Leaf x a b) e q = clash cc
-unlinked i w s (Piece b) e q = clash cc
+unlinked i w s Empty e q = cc
+unlinked i w s (Link x t) e q = by_eq t i (λ b. cond b Empty (Link x t) ≡ Link w s → ⊥) (λ z d. cc) (λ z d. let y : t ≡ s = cc in z (y ∙ q)) e
+unlinked i w s (Leaf x a b) e q = cc
+unlinked i w s (Piece b) e q = cc
 
 module _ (F : Format) (m : Memory) (v : View) (sound : Sound F m v) where
   -- slot i is made new with all its places empty, and no link names it
@@ -389,15 +389,15 @@ module _ (F : Format) (m : Memory) (v : View) (sound : Sound F m v) where
     within = λ k j h. less_empty (less k j) (sound.within k j h);
     links = λ k d w s e.
         let x = sound.links k d w s (less_link (less k d) w s e) in
-        record { root = x.root; is = elsewhere k (stands k d (λ z. clash cc)) ∙ x.is; leads = x.leads; names = rw (elsewhere s (unlinks k d w s e x)) x.names; up = x.up };
+        record { root = x.root; is = elsewhere k (stands k d (λ z. cc)) ∙ x.is; leads = x.leads; names = rw (elsewhere s (unlinks k d w s e x)) x.names; up = x.up };
     leaves = λ k j w a b e.
         let l = less_leaf (less k j) w a b e in
         let x = sound.leaves k j w a l.0 l.1 in
-        record { frame = x.frame; state = x.state; is = elsewhere k (stands k j (λ z. clash cc)) ∙ x.is; pages = x.pages; target = x.target; up = x.up };
+        record { frame = x.frame; state = x.state; is = elsewhere k (stands k j (λ z. cc)) ∙ x.is; pages = x.pages; target = x.target; up = x.up };
     pieces = λ k j b e.
         let l = less_piece (less k j) b e in
         let x = sound.pieces k j l.0 l.1 in
-        record { first = x.first; is = elsewhere k (stands k j (λ z. clash cc)) ∙ x.is; target = x.target };
+        record { first = x.first; is = elsewhere k (stands k j (λ z. cc)) ∙ x.is; target = x.target };
     apart = apart;
   }
 
@@ -407,7 +407,7 @@ module _ (F : Format) (m : Memory) (v : View) (sound : Sound F m v) where
   opens_anew i x p less k j g l e free = elim (eqb l i) as (λ b. guards g (cond b x (v.sh l)) ≡ false) [ true ↦ free | false ↦ sound.shut k j g l (was (eqb k i) e) ]
     where
       was : (b : Bool) → opens j (cond b x (v.sh k)) g (cond b Empty (p k j)) ≡ true → opens j (v.sh k) g (v.pl k j) ≡ true
-      was true d = untrue d
+      was true d = cc
       was false d = less_opens (less k j) j (v.sh k) g d
 
   pub sound_evict : (i : ℕ) → Sound F m (v_evict i v)
@@ -424,16 +424,16 @@ module _ (F : Format) (m : Memory) (v : View) (sound : Sound F m v) where
     where
       unlinks : (k d w s : ℕ) → cond (eqb k i) Empty (unlink_at i (v.sh k) (v.pl k d)) ≡ Link w s → Linked F m v k d w s → s ≡ i → ⊥
       unlinks k d w s e x = elim (eqb k i) as (λ b. cond b Empty (unlink_at i (v.sh k) (v.pl k d)) ≡ Link w s → s ≡ i → ⊥)
-          [ true ↦ (λ z q. clash cc) | false ↦ (λ z q. unlinked i w s (v.pl k d) (sym (ap (λ y. unlink_at i y (v.pl k d)) x.is) ∙ z) q) ] e
+          [ true ↦ (λ z q. cc) | false ↦ (λ z q. unlinked i w s (v.pl k d) (sym (ap (λ y. unlink_at i y (v.pl k d)) x.is) ∙ z) q) ] e
 
       was : (k : ℕ) (x : Thing) → shadows (cond (eqb k i) Nothing (v.sh k)) x ≡ true → shadows (v.sh k) x ≡ true
-      was k x = elim (eqb k i) as (λ b. shadows (cond b Nothing (v.sh k)) x ≡ true → shadows (v.sh k) x ≡ true) [ true ↦ (λ e. untrue (sym (nothing_shadows x) ∙ e)) | false ↦ (λ e. e) ]
+      was k x = elim (eqb k i) as (λ b. shadows (cond b Nothing (v.sh k)) x ≡ true → shadows (v.sh k) x ≡ true) [ true ↦ (λ e. cc (nothing_shadows x)) | false ↦ (λ e. e) ]
 
       table : (k f : ℕ) → cond (eqb k i) Nothing (v.sh k) ≡ Table f Unsynchronised → v.sh k ≡ Table f Unsynchronised
-      table k f = cond_other (eqb k i) (λ e. clash cc)
+      table k f = cond_other (eqb k i) (λ e. cc)
 
       directory : (k f : ℕ) → cond (eqb k i) Nothing (v.sh k) ≡ Directory f → v.sh k ≡ Directory f
-      directory k f = cond_other (eqb k i) (λ e. clash cc)
+      directory k f = cond_other (eqb k i) (λ e. cc)
 
   module _ (i : ℕ) (bare : v.sh i ≡ Nothing) where
     -- a slot filled with thing x, which no slot shadows
@@ -443,14 +443,14 @@ module _ (F : Format) (m : Memory) (v : View) (sound : Sound F m v) where
         (λ k q. ap (λ b. cond b (shadow_of x) (v.sh k)) (ne_eqb k i q))
         (λ k j. less_cond (eqb k i) kept)
         (λ k j stands q. stands (ap (λ b. cond b Empty (v.pl k j)) (eq-eqb k i q)))
-        (λ k d w s e l q. untrue (sym (nothing_shadows (named F w)) ∙ ap (λ y. shadows y (named F w)) (sym (ap v.sh q ∙ bare)) ∙ l.names))
+        (λ k d w s e l q. cc (nothing_shadows (named F w), l.names))
         unique
         (λ k. elim (eqb k i) as (λ b. Backed m (cond b (shadow_of x) (v.sh k))) [ true ↦ backs | false ↦ sound.backed k ])
         (λ a k f e. elim (eqb k i) as (λ b. cond b (shadow_of x) (v.sh k) ≡ Directory f → ⊥) [ true ↦ lags a f (table a f e) | false ↦ sound.apart a k f (table a f e) ])
       where
         -- what shadows x is slot i
         only : (k : ℕ) (y : Thing) → shadows (shadow_of x) y ≡ true → shadows (v.sh k) y ≡ true → ⊥
-        only k y p q = untrue (sym (new k) ∙ ap (shadows (v.sh k)) (new_only x y p) ∙ q)
+        only k y p q = cc (new k, new_only x y p)
 
         unique : (a b : ℕ) (y : Thing) → shadows (cond (eqb a i) (shadow_of x) (v.sh a)) y ≡ true → shadows (cond (eqb b i) (shadow_of x) (v.sh b)) y ≡ true → a ≡ b
         unique a b y = by_eq a i (λ t. shadows (cond t (shadow_of x) (v.sh a)) y ≡ true → shadows (cond (eqb b i) (shadow_of x) (v.sh b)) y ≡ true → a ≡ b)
@@ -471,8 +471,8 @@ module _ (F : Format) (m : Memory) (v : View) (sound : Sound F m v) where
 
     pub sound_fill_table : (f : ℕ) → has_words (m f) ≡ true → ((k : ℕ) → is_table_of f (v.sh k) ≡ false) → Sound F m (v_guard f (v_fill i (thing.Table f) v))
     sound_fill_table f has new = guard_almost F m _ f
-        (framed_fill (thing.Table f) has new (λ k g e d. clash cc))
+        (framed_fill (thing.Table f) has new (λ k g e d. cc))
         (λ k j g l q e. fill_shut (thing.Table f) k j g l e (ne_eqb f g (λ z. q (sym z))))
 
     pub sound_fill_split : (f : ℕ) → ((k : ℕ) → is_split_of f (v.sh k) ≡ false) → Sound F m (v_fill i (thing.Split f) v)
-    sound_fill_split f new = flagged (framed_fill (thing.Split f) tt new (λ k g e d. clash cc)) (λ k j g l e. fill_shut (thing.Split f) k j g l e refl)
+    sound_fill_split f new = flagged (framed_fill (thing.Split f) tt new (λ k g e d. cc)) (λ k j g l e. fill_shut (thing.Split f) k j g l e refl)

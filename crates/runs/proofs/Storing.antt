@@ -14,7 +14,7 @@ use Rattle.slot.specs.declared.slots.Thing.TheVariants as thing
 use Rattle.runs.specs.Laws.{word_at}
 use Rattle.runs.specs.Terms.{hidden, no_exit, trace}
 use Rattle.runs.specs.Unit.{Traced, store_traced, unsync_found}
-use Rattle.runs.proofs.Basics.{by_eq, clash, untrue}
+use Rattle.runs.proofs.Basics.{by_eq}
 use Rattle.runs.proofs.Fewer.{fewer_drop}
 use Rattle.runs.proofs.Good.{Fit, refit}
 use Rattle.runs.proofs.Linking.{Olds, Trip, olds_fewer, put_either, put_here, put_other, put_sh}
@@ -57,15 +57,15 @@ SeenOr F m root v n = (i d w s f j x c : ℕ) → Trip n root i d w s f j x c �
 
 module _ (F : Format) (m : Memory) (root : ℕ) (v : View) (sound : Sound F m v) (s j f : ℕ) where
   new_no_link : {p : Place} {w k : ℕ} → New F m v s j f p → p ≡ Link w k → ⊥
-  new_no_link (new_leaf e q) z = clash cc
-  new_no_link (new_piece e q) z = clash cc
+  new_no_link (new_leaf e q) z = cc
+  new_no_link (new_piece e q) z = cc
 
   -- the new leaf is the present word of the table
   new_up : {p : Place} → New F m v s j f p → (g x c : ℕ) (y : SyncState) (b : Bool) → v.sh s ≡ Table g y → p ≡ Leaf x c b → Up F x (word_at m g j)
   new_up (new_leaf {g = h} {y = z} e q) g x c y b at is =
       let u : word_at m h j ≡ x = cc in
       subst (λ (n : ℕ). Up F n (word_at m g j)) u (subst (λ (n : ℕ). Up F (word_at m n j) (word_at m g j)) (sym (same_table h g z y (v.sh s) e at)) same)
-  new_up (new_piece e q) g x c y b at is = clash cc
+  new_up (new_piece e q) g x c y b at is = cc
 
   pub put_seen : (p : Place) → New F m v s j f p → SeenOr F m root v (v_put s j p v)
   unfolding v_put
@@ -142,11 +142,11 @@ module _ (F : Format) (m : Memory) (root : ℕ) (t : SlotTable) (q : List ℕ) (
     fit = refit ok k (put_place s j p t) (roomy_put s j p t ok.roomy) refl (subst (Sound F k) (sym put) snd);
     shadow = put_dirs;
     seen = subst (SeenOr F m root (view t)) (sym put) (put_seen F m root (view t) ok.sound s j f p new);
-    exits = λ z. clash (sym z);
+    exits = λ z. omega arith;
   }
 
   pub kept_load : flag_of p ≡ false → Kept F m root t q s j p m (put_place s j p t) hidden
-  kept_load e = kept_plain m (sound_new F m (view t) ok.sound s j f inside has p new (λ z. untrue (sym e ∙ z)))
+  kept_load e = kept_plain m (sound_new F m (view t) ok.sound s j f inside has p new (λ z. cc))
 
   module _ (i w : ℕ) (small : i < 1024) where
     -- a directory's frame
@@ -175,7 +175,7 @@ module _ (F : Format) (m : Memory) (root : ℕ) (t : SlotTable) (q : List ℕ) (
     }
       where
         snd : Sound F m off
-        snd = sound_new F m (view t) ok.sound s j f inside has (flag_off p) (new_off new) (λ z. untrue (sym (flag_off_off new) ∙ z))
+        snd = sound_new F m (view t) ok.sound s j f inside has (flag_off p) (new_off new) (λ z. cc (flag_off_off new))
 
         sh : (k : ℕ) → shadow_at k (drop_entry f i (flag_off_at s j (put_place s j p t))) ≡ shadow_at k t
         sh k = ap (λ v. v.sh k) dropped_all ∙ drop_sh k
@@ -237,7 +237,7 @@ module _ (F : Format) (m : Memory) (root : ℕ) (t : SlotTable) (q : List ℕ) (
           let k = protected_yes f (put_place s j p t) e in
           let at = protected_table f (shadow_at k.0 (put_place s j p t)) k.1 in
           let u : true ≡ false = sym (ap (is_table_of f) at ∙ table_here f Protected) ∙ find_none (thing.Table f) (put_place s j p t) z k.0 in
-          clash cc
+          cc
       found_table e (Some n) z =
           let k = protected_yes f (put_place s j p t) e in
           let at = sym (put_shadow k.0) ∙ protected_table f (shadow_at k.0 (put_place s j p t)) k.1 in
@@ -270,7 +270,7 @@ module _ (F : Format) (m : Memory) (root : ℕ) (t : SlotTable) (q : List ℕ) (
         none e n = ap (is_directory_of f) (sym (put_shadow n)) ∙ directory_no f (put_place s j p t) e n
 
         go : (b c : Bool) → is_directory f (put_place s j p t) ≡ b → is_protected f (put_place s j p t) ≡ c → StoreKept b (by_tests b c)
-        go true c e z = (kept_directory, λ u. clash cc)
+        go true c e z = (kept_directory, λ u. cc)
         go false true e z =
             let k = found_table (none e) z (find_slot (thing.Table f) (put_place s j p t)) refl in
             (k.0, λ u. k.1)

@@ -1,6 +1,6 @@
 -- Finding or taking the slot of a thing keeps slots fit.
 use Rattle.std.proofs.Common.{◌≡◌, ℕ, ◌<◌, Bool, true, false, cond, not, ◌&&◌, eqb, ltb, ◌⊎◌, List, Some, None, Option, sym, refl, ap, ◌∙◌, subst, inl, inr, arith}
-use Rattle.std.proofs.lemmas.Bool.{and_parts, eq-eqb, lt-ltb, ltb-true, not-true}
+use Rattle.std.proofs.lemmas.Bool.{and_parts, eq-eqb, false_from_ne_true, lt-ltb, ltb-true, not-true}
 use Rattle.memory.specs.Memory.{Memory, has_words}
 use Rattle.paging.specs.Formats.{Format}
 use Rattle.policies.specs.Orders.{OrdersKept, Rule, first_permitted, times}
@@ -13,7 +13,7 @@ use Rattle.slot.specs.declared.slots.SyncState.TheVariants.{Unsynchronised}
 use Rattle.slot.specs.declared.slots.Thing.{Thing}
 use Rattle.slot.specs.declared.slots.Thing.TheVariants as thing
 use Rattle.runs.specs.Unit.{Taken, guard_for, obtain, obtained, ready_for, resync, resync_found, room, settle_in, take_slot, taken}
-use Rattle.runs.proofs.Basics.{by_eq, clash, not_yes, untrue}
+use Rattle.runs.proofs.Basics.{by_eq}
 use Rattle.runs.proofs.Fewer.{Fewer, fewer_evict, fewer_fill, fewer_guard, fewer_same, fewer_trans}
 use Rattle.runs.proofs.Good.{Fit, refit}
 use Rattle.runs.proofs.Places.{empty_none, empty_some, find_none, find_some, permitted_if, permitted_says, roomy_evict, roomy_fill, roomy_guard, view_evict, view_fill, view_guard}
@@ -91,7 +91,7 @@ module _ (F : Format) (R : Rule) (kept_order : OrdersKept R) (m : Memory) where
 
       back : (k : ℕ) (x : Thing) → shadows (cond (eqb k i) Nothing (shadow_at k t)) x ≡ true → shadows (shadow_at k t) x ≡ true
       back k x = by_eq k i (λ b. shadows (cond b Nothing (shadow_at k t)) x ≡ true → shadows (shadow_at k t) x ≡ true)
-          (λ p z. untrue (sym (nothing_shadows x) ∙ z)) (λ n z. z)
+          (λ p z. cc (nothing_shadows x)) (λ n z. z)
 
       stays : (root k : ℕ) → kept ≡ Some root → shadow_at k t ≡ Directory root → cond (eqb k i) Nothing (shadow_at k t) ≡ Directory root
       stays root k z w = by_eq k i (λ b. cond b Nothing (shadow_at k t) ≡ Directory root)
@@ -99,7 +99,7 @@ module _ (F : Format) (R : Rule) (kept_order : OrdersKept R) (m : Memory) where
           let here : shadow_at i t ≡ Directory root = sym (ap (λ (n : ℕ). shadow_at n t) p) ∙ w in
           let u : is_root (shadow_at i t) kept ≡ true = ap (is_root (shadow_at i t)) z ∙ ap (is_directory_of root) here ∙ directory_here root in
           let c : true ≡ false = sym u ∙ not-true (is_root (shadow_at i t) kept) parts.2 in
-          clash cc)
+          cc)
           (λ n. w)
 
   -- where all slots are filled, one may be taken
@@ -150,7 +150,7 @@ module _ (F : Format) (R : Rule) (kept_order : OrdersKept R) (m : Memory) where
       go None e = record {
         fit = fit;
         turned = turned_same;
-        lag = λ k z. let u : true ≡ false = sym (ap (is_table_of f) z ∙ table_here f Unsynchronised) ∙ find_none (thing.Table f) t e k in clash cc;
+        lag = λ k z. let u : true ≡ false = sym (ap (is_table_of f) z ∙ table_here f Unsynchronised) ∙ find_none (thing.Table f) t e k in cc;
       }
       go (Some i) e =
           let a = resynced F m t q i fit in
@@ -161,7 +161,7 @@ module _ (F : Format) (R : Rule) (kept_order : OrdersKept R) (m : Memory) where
                 let yes_k : is_table_of f (shadow_at k (resync m i t)) ≡ true = ap (is_table_of f) z ∙ table_here f Unsynchronised in
                 let same : k ≡ i = fit.sound.unique k i (thing.Table f) (sym (a.turned.things k (thing.Table f)) ∙ yes_k) (find_some (thing.Table f) t i fit.roomy e).0 in
                 let u : true ≡ false = sym (ap lags z) ∙ ap (λ (j : ℕ). lags (shadow_at j (resync m i t))) same ∙ a.calm in
-                clash cc;
+                cc;
           }
 
   -- a filled slot, and the others
@@ -231,7 +231,7 @@ module _ (F : Format) (R : Rule) (kept_order : OrdersKept R) (m : Memory) where
       vac = d.turned.vacant k.slot r.vacant
 
       none_now : (i : ℕ) → shadows (shadow_at i (ready_for m x k.table)) x ≡ false
-      none_now i = not_yes _ (λ e. let u : true ≡ false = sym (r.were i x (sym (d.turned.things i x) ∙ e)) ∙ none i in clash cc)
+      none_now i = false_from_ne_true _ (λ e. cc (r.were i x (sym (d.turned.things i x) ∙ e), none i))
 
       z : Filled k.slot x (ready_for m x k.table) (guard_for x (fill k.slot x (ready_for m x k.table)))
       z = filled k.slot x (ready_for m x k.table) k.order d.fit r.small vac has none_now d.lag
@@ -249,7 +249,7 @@ module _ (F : Format) (R : Rule) (kept_order : OrdersKept R) (m : Memory) where
 
       keeps : (root i : ℕ) → shadow_at i k.table ≡ Directory root → cond (eqb i k.slot) (shadow_of x) (shadow_at i (ready_for m x k.table)) ≡ Directory root
       keeps root i e = by_eq i k.slot (λ b. cond b (shadow_of x) (shadow_at i (ready_for m x k.table)) ≡ Directory root)
-          (λ p. let u : Nothing ≡ Directory root = sym r.vacant ∙ sym (ap (λ (j : ℕ). shadow_at j k.table) p) ∙ e in clash cc)
+          (λ p. let u : Nothing ≡ Directory root = sym r.vacant ∙ sym (ap (λ (j : ℕ). shadow_at j k.table) p) ∙ e in cc)
           (λ p. is_directory_at root (shadow_at i (ready_for m x k.table)) (d.turned.things i (thing.Directory root) ∙ ap (is_directory_of root) e ∙ directory_here root))
 
   pub took : (kept : Option ℕ) (x : Thing) (t : SlotTable) (q : List ℕ) → Fit F m t q → NoneOf x t → HasFrame m x → (first_empty t ≡ None → Free kept t) → Got kept x t (take_slot R m kept x t q)
@@ -305,5 +305,5 @@ module _ (F : Format) (R : Rule) (kept_order : OrdersKept R) (m : Memory) where
         1,
         l1,
         takes _ _ _ (lt-ltb 1 t.count l1) (empty_none t fit.roomy fit.few e 1 l1)
-            (not_yes _ (λ c. let u : ◌≡◌ {A = ℕ} 0 1 = fit.sound.unique 0 1 (thing.Directory root) d c in clash u)),
+            (false_from_ne_true _ (λ c. let u : ◌≡◌ {A = ℕ} 0 1 = fit.sound.unique 0 1 (thing.Directory root) d c in cc)),
       )

@@ -7,7 +7,6 @@ use Rattle.paging.specs.Terms.{because_absent, because_denied, because_malformed
 use Rattle.walk.specs.Marking.{Write, due, mark_at, mark_of, put_all}
 use Rattle.walk.specs.Walk.{Asked, Failure, Seen, Spot, arrive, at_page, at_table, by_directory, by_table, directory_index, fails, faulted, in_directory, in_table, reached, seen, spot, table_index, walk_from}
 use Rattle.runs.specs.Laws.{below_directory, fault, guest_walk, root_read, table_read, to, with_marks, word_at, word_in, words_read}
-use Rattle.runs.proofs.Basics.{clash, untrue}
 use Rattle.runs.proofs.Memories.{put_all_append, raises_mark, raises_refl, raises_trans, small_append, word_stored_same}
 use Rattle.runs.proofs.Moments.{SmallWrites}
 use Rattle.runs.proofs.Sound.{Leads, Pages, Raises, Up, more, named, same}
@@ -68,23 +67,23 @@ module _ (F : Format) (laws : LawsOfMarking F) where
 module _ (F : Format) (a : Asked) (m : Memory) where
   root_known : (s : Spot) (x : Contents) → has_words x ≡ true → in_directory F a m s x ≡ by_directory F a m (seen s (word_in x s.index)) (F.reads directory_level (word_in x s.index))
   root_known s (words w) e = refl
-  root_known s (cause c) e = untrue e
+  root_known s (cause c) e = cc
 
   table_known : (d : Seen) (s : Spot) (x : Contents) → has_words x ≡ true → in_table F a m d s x ≡ by_table F a m d (seen s (word_in x s.index)) (F.reads table_level (word_in x s.index))
   table_known d s (words w) e = refl
-  table_known d s (cause c) e = untrue e
+  table_known d s (cause c) e = cc
 
   target_known : (f : ℕ) (es : List Seen) (x : Contents) → has_words x ≡ true → arrive F a m f es x ≡ reached f es
   target_known f es (words w) e = refl
-  target_known f es (cause c) e = untrue e
+  target_known f es (cause c) e = cc
 
   root_words : (root : ℕ) (x : Contents) → has_words x ≡ true → root_read F a root m x ≡ record { frame = root; index = directory_index a.address } ∷ below_directory a m (F.reads directory_level (word_in x (directory_index a.address)))
   root_words root (words w) e = refl
-  root_words root (cause c) e = untrue e
+  root_words root (cause c) e = cc
 
   table_words : (f i : ℕ) (x : Contents) → has_words x ≡ true → table_read f i x ≡ record { frame = f; index = i } ∷ []
   table_words f i (words w) e = refl
-  table_words f i (cause c) e = untrue e
+  table_words f i (cause c) e = cc
 
 -- a settled entry is not written
 unmarked : (F : Format) (k : ℕ) (s : Spot) (x : Contents) → F.marks s.level k (word_in x s.index) ≡ word_in x s.index → mark_of F k s x ≡ []
@@ -170,7 +169,7 @@ pub data Arrived (F : Format) (a : Asked) (m : Memory) (root : ℕ) : ℕ → Li
       → Arrived F a m root f (seen (root_spot a root) (upper a m root) ∷ seen (table_spot a (below F a m root)) (lower a m (below F a m root)) ∷ [])
 
 not_reached : {A : Type 0} {x : Failure} {f : ℕ} {es : List Seen} → faulted x ≡ reached f es → A
-not_reached e = clash cc
+not_reached e = cc
 
 module _ (F : Format) (a : Asked) (m : Memory) (root : ℕ) where
   moved : {g f : ℕ} {es qs : List Seen} → reached g es ≡ reached f qs → Arrived F a m root g es → Arrived F a m root f qs
@@ -247,7 +246,7 @@ module _ (F : Format) (k : ℕ) where
 
       go : (x : Contents) → m s.frame ≡ x → Marked m s (mark_of F k s x)
       go (words w) e = by (w s.index) (rw e) (eqb (F.marks s.level k (w s.index)) (w s.index)) refl
-      go (cause c) e = settled (λ h. untrue (rw e at h))
+      go (cause c) e = settled (λ h. cc)
 
   raises_by : (m : Memory) (s : Spot) (xs : List Write) → s.index < 1024 → Marked m s xs → Raises F m (put_all m xs)
   raises_by m s xs h (settled e) = raises_refl F m

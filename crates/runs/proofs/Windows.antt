@@ -9,7 +9,6 @@ use Rattle.walk.specs.Walk.{Asked, directory_index, table_index, word_index}
 use Rattle.runs.specs.Histories.{Event, History, Opening, Sometime, at_end, at_opening, between, covers, earlier, failed, flushed_all, flushed_page, marks_in, memory_at, memory_between, moded, settled, stored_since, stores_in, switched, went, writes_to}
 use Rattle.runs.specs.Laws.{last_put, last_written, word_at}
 use Rattle.runs.specs.Terms.{Through}
-use Rattle.runs.proofs.Basics.{clash}
 use Rattle.runs.proofs.Memories.{has_put_all, last_put_append, last_put_is, put_all_other, up_trans}
 use Rattle.runs.proofs.Moments.{Raised, SmallWrites}
 use Rattle.runs.proofs.Sound.{Up}
@@ -74,9 +73,9 @@ small_stores settled = tt
 marks_uncovered : (e : Event) (p : ℕ) {x : Write} {xs : List Write} → marks_in e ≡ x ∷ xs → covers e p ≡ false
 marks_uncovered (went a w r) p m = refl
 marks_uncovered (failed a x) p m = refl
-marks_uncovered flushed_all p m = clash cc
-marks_uncovered (flushed_page a) p m = clash cc
-marks_uncovered (switched r) p m = clash cc
+marks_uncovered flushed_all p m = cc
+marks_uncovered (flushed_page a) p m = cc
+marks_uncovered (switched r) p m = cc
 marks_uncovered (moded q) p m = refl
 marks_uncovered settled p m = refl
 
