@@ -1,6 +1,7 @@
 -- An access hits just where its link stands, with a leaf or a piece below it that lets it through.
 use Rattle.std.proofs.Common.{◌≡◌, ℕ, ◌+◌, Bool, true, false, cond, not, ◌&&◌, ◌||◌, eqb, ltb, [], ◌∷◌, Some, None, refl, ap, ◌∙◌, subst}
 use Rattle.std.proofs.lemmas.Bool.{and_parts, eq-eqb, eqb-true}
+use Rattle.std.proofs.lemmas.Option.{cond_some}
 use Rattle.paging.specs.Formats.{Format}
 use Rattle.paging.specs.Terms.{directory_level, store, table_level}
 use Rattle.hits.specs.Hits.{copied_at, copied_below, copied_from, copied_piece, hits, number_limit, passes}
@@ -73,36 +74,26 @@ module _ (F : Format) (a : Asked) (t : SlotTable) (i : ℕ) where
   abbrev J : ℕ
   J = table_index a.address
 
-  -- a test that lets a frame through
-  let_through : (b : Bool) (c f : ℕ) → cond b (Some c) None ≡ Some f → (b ≡ true) × (c ≡ f)
-  let_through true c f e = (refl, cc)
-  let_through false c f e = cc
-
   from_piece : (w s : ℕ) (b : Bool) (f : ℕ) (x : Shadow) → place_at i D t ≡ Link w s → place_at s J t ≡ Piece b → shadow_at s t ≡ x → hit_by F a (copied_piece w J b x) ≡ Some f → Hit F a t i f
-  from_piece w s b f Nothing p q y e = cc
-  from_piece w s b f (Directory g) p q y e = cc
-  from_piece w s b f (Table g z) p q y e = cc
   from_piece w s b f (Split g) p q y e = go (ltb (g + J) number_limit) e
     where
       go : (u : Bool) → hit_by F a (cond u (Some (record { link = w; leaf = None; aim = g + J; writable = b })) None) ≡ Some f → Hit F a t i f
       go true z =
-          let h = let_through (hits F a.kind a.privilege (w ∷ []) b) (g + J) f z in
+          let h = cond_some (hits F a.kind a.privilege (w ∷ []) b) (g + J) f z in
           subst (Hit F a t i) h.1 (by_piece p y q (large_parts F a.kind a.privilege w b h.0))
-      go false z = cc
+      go false z = absurd cc
+  from_piece w s b f x p q y e = absurd cc
 
   from_below : (w s f : ℕ) (x : Place) → place_at i D t ≡ Link w s → place_at s J t ≡ x → hit_by F a (copied_below w (shadow_at s t) J x) ≡ Some f → Hit F a t i f
-  from_below w s f Empty p q e = cc
-  from_below w s f (Link u v) p q e = cc
   from_below w s f (Leaf x c b) p q e =
-      let h = let_through (hits F a.kind a.privilege (w ∷ x ∷ []) b) c f e in
+      let h = cond_some (hits F a.kind a.privilege (w ∷ x ∷ []) b) c f e in
       by_leaf p (subst (λ (n : ℕ). place_at s J t ≡ Leaf x n b) h.1 q) (small_parts F a.kind a.privilege w b x h.0)
   from_below w s f (Piece b) p q e = from_piece w s b f (shadow_at s t) p q refl e
+  from_below w s f x p q e = absurd cc
 
   from_link : (f : ℕ) (x : Place) → place_at i D t ≡ x → hit_by F a (copied_from t J x) ≡ Some f → Hit F a t i f
-  from_link f Empty p e = cc
   from_link f (Link w s) p e = from_below w s f (place_at s J t) p refl e
-  from_link f (Leaf x c b) p e = cc
-  from_link f (Piece b) p e = cc
+  from_link f x p e = absurd cc
 
   pub hit_there : (f : ℕ) → hit_by F a (copied_at i D J t) ≡ Some f → Hit F a t i f
   hit_there f e = from_link f (place_at i D t) refl e

@@ -37,12 +37,6 @@ directory_here f = eq-eqb f f refl
 pub table_here : (f : ℕ) (y : SyncState) → is_table_of f (Table f y) ≡ true
 table_here f y = eq-eqb f f refl
 
-pub same_directory : (a b : ℕ) (x : Shadow) → x ≡ Directory a → x ≡ Directory b → a ≡ b
-same_directory a b x p q = cc
-
-pub same_table : (a b : ℕ) (y z : SyncState) (x : Shadow) → x ≡ Table a y → x ≡ Table b z → a ≡ b
-same_table a b y z x p q = cc
-
 -- what protects a frame is a protected table of it
 pub protected_table : (f : ℕ) (x : Shadow) → protects f x ≡ true → x ≡ Table f Protected
 protected_table f (Table g Protected) e = ap (λ (n : ℕ). Table n Protected) (eqb-true g f (and_parts (eqb g f) true e).0)

@@ -17,7 +17,7 @@ use Rattle.runs.specs.Laws.{word_at}
 use Rattle.runs.proofs.Basics.{by_eq, by_eq₂, cond_other, elim_eq}
 use Rattle.runs.proofs.Losses.{Less, checked_less, guard_at_less, kept, less_cond, less_empty, less_leaf, less_link, less_opens, less_piece, unlink_less}
 use Rattle.runs.proofs.Memories.{has_stored, up_trans, word_stored_other}
-use Rattle.runs.proofs.Shadows.{Alike, alike_directory, alike_shadows, alike_split, alike_sym, alike_table, as_is, new_only, new_protected, nothing_shadows, same_directory, same_table, state, sync_alike, table_here}
+use Rattle.runs.proofs.Shadows.{Alike, alike_directory, alike_shadows, alike_split, alike_sym, alike_table, as_is, new_only, new_protected, nothing_shadows, state, sync_alike, table_here}
 use Rattle.runs.proofs.Sound.{Backed, Leads, Leafed, Linked, Pages, Pieced, Raises, Sound, Up, guards, named, opens, same}
 use Rattle.runs.proofs.Views.{View, guard_at, unlink_at, v_check, v_checked, v_drop, v_evict, v_fill, v_flag_off, v_guard, v_put, v_sync}
 
@@ -28,30 +28,29 @@ module _ (F : Format) (m : Memory) (v : View) (sound : Sound F m v) (i j : ℕ) 
   pub link_now : (f w s : ℕ) → v.sh i ≡ Directory f → v.pl i j ≡ Link w s → Up F w (word_at m f j)
   link_now f w s at p =
       let l = sound.links i j w s p in
-      subst (λ (n : ℕ). Up F w (word_at m n j)) (same_directory l.root f (v.sh i) l.is at) l.up
+      let same_root : l.root ≡ f = cc (l.is, at) in
+      subst (λ (n : ℕ). Up F w (word_at m n j)) same_root l.up
 
   -- .. and so is a leaf of a protected table
   pub leaf_now : (f w a : ℕ) (b : Bool) → v.sh i ≡ Table f Protected → v.pl i j ≡ Leaf w a b → Up F w (word_at m f j)
   leaf_now f w a b at p =
       let l = sound.leaves i j w a b p in
       let st : l.state ≡ Protected = cc (l.is, at) in
-      subst (λ (n : ℕ). Up F w (word_at m n j)) (same_table l.frame f l.state Protected (v.sh i) l.is at) (l.up st)
+      let same_frame : l.frame ≡ f = cc (l.is, at) in
+      subst (λ (n : ℕ). Up F w (word_at m n j)) same_frame (l.up st)
 
 -- SHADOWS ALIKE
 
 alike_opens : {x y : Shadow} → Alike x y → (j g : ℕ) (p : Place) → opens j x g p ≡ true → opens j y g p ≡ true
 alike_opens as_is j g p e = e
 alike_opens state j g Empty e = e
-alike_opens state j g (Link w s) e = e
-alike_opens state j g (Leaf w a b) e = e
-alike_opens state j g (Piece b) e = e
+alike_opens state j g p e = e
 
 module _ (m n : Memory) (has : (f : ℕ) → has_words (n f) ≡ has_words (m f)) where
   backed_has : (x : Shadow) → Backed m x → Backed n x
-  backed_has Nothing h = h
   backed_has (Directory f) h = has f ∙ h
   backed_has (Table f y) h = has f ∙ h
-  backed_has (Split f) h = h
+  backed_has x h = h
 
   alike_backed : {x y : Shadow} → Alike x y → Backed m y → Backed n x
   alike_backed (as_is {x}) h = backed_has x h
@@ -122,24 +121,16 @@ module _ (F : Format) (m : Memory) (v : View) where
       leaf_in w a b q x p t h = let l = fr.leaves i j w a b q in h l.frame l.state (sym p ∙ l.is)
 
       go : (x : Shadow) (p : Place) → v.sh i ≡ x → v.pl i j ≡ p → opens j x f (guard_at f j x p) ≡ false
-      go Nothing Empty e q = refl
-      go Nothing (Link w s) e q = refl
       go Nothing (Leaf w a b) e q = leaf_in w a b q Nothing e (b && eqb a f) (λ g y z. cc)
-      go Nothing (Piece b) e q = refl
-      go (Directory r) Empty e q = refl
-      go (Directory r) (Link w s) e q = refl
       go (Directory r) (Leaf w a b) e q = leaf_in w a b q (Directory r) e (b && eqb a f) (λ g y z. cc)
-      go (Directory r) (Piece b) e q = refl
-      go (Table g y) Empty e q = refl
-      go (Table g y) (Link w s) e q = refl
       go (Table g y) (Leaf w a b) e q =
           elim_eq (eqb a f) (λ t. opens j (Table g y) f (cond t (Leaf w a false) (Leaf w a b)) ≡ false) (λ t. refl) (λ t. and_right b (eqb a f) t)
-      go (Table g y) (Piece b) e q = refl
       go (Split g) Empty e q = elim (eqb (g + j) f) as (λ t. opens j (Split g) f (cond t Empty Empty) ≡ false) [ true ↦ refl | false ↦ refl ]
       go (Split g) (Link w s) e q = elim (eqb (g + j) f) as (λ t. opens j (Split g) f (cond t (Link w s) (Link w s)) ≡ false) [ true ↦ refl | false ↦ refl ]
       go (Split g) (Leaf w a b) e q = leaf_in w a b q (Split g) e (opens j (Split g) f (guard_at f j (Split g) (Leaf w a b))) (λ h y z. cc)
       go (Split g) (Piece b) e q =
           elim_eq (eqb (g + j) f) (λ t. opens j (Split g) f (cond t (Piece false) (Piece b)) ≡ false) (λ t. refl) (λ t. and_right b (eqb (g + j) f) t)
+      go x p e q = refl
 
   guard_framed : Framed F m v → (f : ℕ) → Framed F m (v_guard f v)
   unfolding v_guard
@@ -213,11 +204,9 @@ module _ (F : Format) (m : Memory) (v : View) (sound : Sound F m v) where
         only f z p q = sound.unique n k (thing.Table g) (ap (is_table_of g) p ∙ eq-eqb f g q) (ap (is_table_of g) at ∙ table_here g y)
 
         other : (n ≡ k → ⊥) → (x : Shadow) → v.sh n ≡ x → guards g x ≡ false
-        other e Nothing p = refl
         other e (Directory f) p = sym (ap (is_directory_of g) p) ∙ none n
         other e (Table f Protected) p = ne_eqb f g (λ q. e (only f Protected p q))
-        other e (Table f Unsynchronised) p = refl
-        other e (Split f) p = refl
+        other e x p = refl
 
     pub sound_unsync : Sound F m (v_sync k Unsynchronised v)
     unfolding v_sync
@@ -231,17 +220,13 @@ module _ (F : Format) (m : Memory) (v : View) (sound : Sound F m v) where
 
         protected : (b : Bool) (x : Shadow) (f : ℕ) → cond b (with_sync Unsynchronised x) x ≡ Table f Protected → x ≡ Table f Protected
         protected false x f e = e
-        protected true Nothing f e = e
-        protected true (Directory r) f e = e
         protected true (Table h z) f e = cc
-        protected true (Split h) f e = e
+        protected true x f e = e
 
         fewer : (b : Bool) (x : Shadow) (f : ℕ) → guards f x ≡ false → guards f (cond b (with_sync Unsynchronised x) x) ≡ false
         fewer false x f e = e
-        fewer true Nothing f e = e
-        fewer true (Directory r) f e = e
         fewer true (Table h z) f e = refl
-        fewer true (Split h) f e = e
+        fewer true x f e = e
 
         -- an unsynchronised table was one, or is the table of g
         table_of : (i f : ℕ) → cond (eqb i k) (with_sync Unsynchronised (v.sh i)) (v.sh i) ≡ Table f Unsynchronised → (v.sh i ≡ Table f Unsynchronised) ⊎ (f ≡ g)
@@ -331,11 +316,9 @@ pub checked_alike : (m : Memory) (i f : ℕ) (y : SyncState) (v : View) → v.sh
 checked_alike m i f y v at k = by_eq k i (λ b. Alike (cond b (Table f Protected) (v.sh k)) (v.sh k)) (λ q. subst (Alike (Table f Protected)) (sym (ap v.sh q ∙ at)) state) (λ q. as_is)
 
 check_word : (w : ℕ) (p : Place) (x a : ℕ) (b : Bool) → check_place w p ≡ Leaf x a b → x ≡ w
-check_word w Empty x a b e = cc
-check_word w (Link v s) x a b e = cc
 check_word w (Leaf v f c) x a b e =
     by_eq v w (λ t. cond t (Leaf v f c) Empty ≡ Leaf x a b → x ≡ w) (λ p q. let z : v ≡ x = cc in sym z ∙ p) (λ p q. cc) e
-check_word w (Piece c) x a b e = cc
+check_word w p x a b e = cc
 
 module _ (F : Format) (m : Memory) (v : View) (sound : Sound F m v) where
   pub sound_check : (i f : ℕ) (y : SyncState) → v.sh i ≡ Table f y → Sound F m (v_check m i f v)
@@ -370,10 +353,8 @@ module _ (F : Format) (m : Memory) (v : View) (sound : Sound F m v) where
 
 -- no link to slot i is left
 unlinked : (i w s : ℕ) (p : Place) → unlink_place i p ≡ Link w s → s ≡ i → ⊥
-unlinked i w s Empty e q = cc
 unlinked i w s (Link x t) e q = by_eq t i (λ b. cond b Empty (Link x t) ≡ Link w s → ⊥) (λ z d. cc) (λ z d. let y : t ≡ s = cc in z (y ∙ q)) e
-unlinked i w s (Leaf x a b) e q = cc
-unlinked i w s (Piece b) e q = cc
+unlinked i w s p e q = cc
 
 module _ (F : Format) (m : Memory) (v : View) (sound : Sound F m v) where
   -- slot i is made new with all its places empty, and no link names it

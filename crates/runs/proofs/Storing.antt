@@ -19,7 +19,7 @@ use Rattle.runs.proofs.Fewer.{fewer_drop}
 use Rattle.runs.proofs.Good.{Fit, refit}
 use Rattle.runs.proofs.Linking.{Olds, Trip, olds_fewer, put_either, put_here, put_other, put_sh}
 use Rattle.runs.proofs.Places.{directory_no, find_none, find_some, protected_no, protected_yes, roomy_drop, roomy_flag_off, roomy_put, roomy_sync, view_drop, view_flag_off, view_put, view_sync}
-use Rattle.runs.proofs.Shadows.{Alike, alike_directory, alike_split, alike_sym, alike_table, protected_table, same_table, sync_alike, table_here, unguarded}
+use Rattle.runs.proofs.Shadows.{Alike, alike_directory, alike_split, alike_sym, alike_table, protected_table, sync_alike, table_here, unguarded}
 use Rattle.runs.proofs.Sound.{Pages, Sound, Up, guards, same}
 use Rattle.runs.proofs.Sounds.{flag_off_put, leaf_now, link_now, sound_directory_store, sound_leaf, sound_piece, sound_store, sound_unsync, sync_put, unguarded_by_sync}
 use Rattle.runs.proofs.Views.{View, v_drop, v_flag_off, v_put, v_sync, view}
@@ -62,9 +62,10 @@ module _ (F : Format) (m : Memory) (root : ℕ) (v : View) (sound : Sound F m v)
 
   -- the new leaf is the present word of the table
   new_up : {p : Place} → New F m v s j f p → (g x c : ℕ) (y : SyncState) (b : Bool) → v.sh s ≡ Table g y → p ≡ Leaf x c b → Up F x (word_at m g j)
-  new_up (new_leaf {g = h} {y = z} e q) g x c y b at is =
+  new_up (new_leaf {g = h} e q) g x c y b at is =
       let u : word_at m h j ≡ x = cc in
-      subst (λ (n : ℕ). Up F n (word_at m g j)) u (subst (λ (n : ℕ). Up F (word_at m n j) (word_at m g j)) (sym (same_table h g z y (v.sh s) e at)) same)
+      let same_frame : h ≡ g = cc (e, at) in
+      subst (λ (n : ℕ). Up F n (word_at m g j)) u (subst (λ (n : ℕ). Up F (word_at m n j) (word_at m g j)) (sym same_frame) same)
   new_up (new_piece e q) g x c y b at is = cc
 
   pub put_seen : (p : Place) → New F m v s j f p → SeenOr F m root v (v_put s j p v)

@@ -62,22 +62,12 @@ small_stores (went a w r) = go (eqb a.kind store)
     go : (b : Bool) → SmallWrites (cond b (record { frame = r.target; index = word_index a.address; word = w } ∷ []) [])
     go true = (word_index_small a.address, tt)
     go false = tt
-small_stores (failed a x) = tt
-small_stores flushed_all = tt
-small_stores (flushed_page a) = tt
-small_stores (switched r) = tt
-small_stores (moded p) = tt
-small_stores settled = tt
+small_stores e = tt
 
 -- an event with marks covers no page
 marks_uncovered : (e : Event) (p : ℕ) {x : Write} {xs : List Write} → marks_in e ≡ x ∷ xs → covers e p ≡ false
 marks_uncovered (went a w r) p m = refl
-marks_uncovered (failed a x) p m = refl
-marks_uncovered flushed_all p m = cc
-marks_uncovered (flushed_page a) p m = cc
-marks_uncovered (switched r) p m = cc
-marks_uncovered (moded q) p m = refl
-marks_uncovered settled p m = refl
+marks_uncovered e p m = cc
 
 -- the window goes on through an event that does not cover the page: neither its store nor one before went there
 unstored : (f i p : ℕ) (e : Event) (h : History) → covers e p ≡ false → stored_since f i p (e ∷ h) ≡ false → (writes_to f i (stores_in e) ≡ false) × (stored_since f i p h ≡ false)
