@@ -1,6 +1,6 @@
 -- Checking unsynchronised tables keeps slots fit.
-use Rattle.std.proofs.Common.{◌≡◌, ℕ, zero, suc, ◌<◌, true, false, cond, List, [], ◌∷◌, sym, refl, ap, ◌∙◌, subst, arith}
-use Rattle.std.proofs.lemmas.Bool.{eq-eqb}
+use Rattle.std.proofs.Common.{◌≡◌, ℕ, zero, suc, ◌+◌, ◌<◌, ◌≤◌, true, false, cond, List, [], ◌∷◌, sym, refl, ap, ◌∙◌, subst, ⊎_elim, arith}
+use Rattle.std.proofs.lemmas.Bool.{cases_eq, eq-eqb}
 use Rattle.memory.specs.Memory.{Memory}
 use Rattle.paging.specs.Formats.{Format}
 use Rattle.shadow.specs.Slots.{shadow_at}
@@ -10,7 +10,7 @@ use Rattle.slot.specs.declared.slots.Shadow.TheVariants.{Nothing, Directory, Tab
 use Rattle.shadow.specs.declared.slots.SlotTable.{SlotTable}
 use Rattle.slot.specs.declared.slots.SyncState.TheVariants.{Protected, Unsynchronised}
 use Rattle.slot.specs.declared.slots.Thing.{Thing}
-use Rattle.runs.specs.Unit.{resync, resync_all, resync_each}
+use Rattle.runs.specs.Unit.{listed, resync, resync_all, resync_each}
 use Rattle.runs.proofs.Basics.{by_eq}
 use Rattle.runs.proofs.Fewer.{Fewer, fewer_check, fewer_same, fewer_trans}
 use Rattle.runs.proofs.Good.{Fit, refit}
@@ -53,7 +53,7 @@ module _ (m : Memory) (i f : ℕ) (v : View) where
   unfolding v_check v_guard
   check_vacant at k e =
       by_eq k i (λ b. cond b (Table f Protected) (v.sh k) ≡ Nothing)
-      (λ q. let z : Nothing ≡ Table f Unsynchronised = sym e ∙ ap v.sh q ∙ at in cc) (λ n. e)
+      (λ q. cc) (λ n. e)
 
 module _ (F : Format) (m : Memory) where
   pub record Resynced (t : SlotTable) (q : List ℕ) (i : ℕ) (n : SlotTable) : Type 0 where
@@ -68,9 +68,6 @@ module _ (F : Format) (m : Memory) where
   resynced t q i fit = go (shadow_at i t) refl
     where
       go : (x : Shadow) → shadow_at i t ≡ x → Resynced t q i (resync m i t)
-      go Nothing e = left_alone t q i fit (ap lags e)
-      go (Directory f) e = left_alone t q i fit (ap lags e)
-      go (Table f Protected) e = left_alone t q i fit (ap lags e)
       go (Table f Unsynchronised) e =
           let is = resync_checked m i f t fit.roomy e in
           let count = count_resync m i t in
@@ -84,18 +81,15 @@ module _ (F : Format) (m : Memory) where
             };
             calm = ap (λ v. lags (v.sh i)) is ∙ ap lags (check_here m i f (view t));
           }
-      go (Split f) e = left_alone t q i fit (ap lags e)
+      go x e = left_alone t q i fit (ap lags e)
 
   -- a slot that is in step stays so
   pub calm_kept : {t n : SlotTable} → Turned t n → (k : ℕ) → lags (shadow_at k t) ≡ false → lags (shadow_at k n) ≡ false
   calm_kept {t} {n} u k e = go (shadow_at k n) refl
     where
       go : (x : Shadow) → shadow_at k n ≡ x → lags (shadow_at k n) ≡ false
-      go Nothing q = ap lags q
-      go (Directory f) q = ap lags q
-      go (Table f Protected) q = ap lags q
-      go (Table f Unsynchronised) q = let z : true ≡ false = sym (ap lags (u.fewer.lagging k f q)) ∙ e in cc
-      go (Split f) q = ap lags q
+      go (Table f Unsynchronised) q = cc (u.fewer.lagging k f q)
+      go x q = ap lags q
 
   -- all of a list are checked in turn
   pub record AllCalm (t : SlotTable) (q : List ℕ) (n : SlotTable) : Type 0 where
@@ -127,23 +121,17 @@ module _ (F : Format) (m : Memory) where
   in_calm i (k ∷ is) t q fit here = first_calm i is t q fit
   in_calm i (k ∷ is) t q fit (there p) = in_calm i is (resync m k t) q (resynced t q k fit).fit p
 
+  in_rising : (a n k : ℕ) → a ≤ k → k < a + n → In k (listed (λ i. i) a n)
+  in_rising a zero k l u = absurd (omega arith)
+  in_rising a (suc n) k l u = ⊎_elim (λ e. subst (λ i. In i (listed (λ j. j) a (suc n))) e here) (λ d. there (in_rising (suc a) n k (omega arith) (omega arith))) (cases_eq a k)
+
   in_eight : (k : ℕ) → k < 8 → In k eight
-  in_eight zero l = here
-  in_eight (suc zero) l = there here
-  in_eight (suc (suc zero)) l = there (there here)
-  in_eight (suc (suc (suc zero))) l = there (there (there here))
-  in_eight (suc (suc (suc (suc zero)))) l = there (there (there (there here)))
-  in_eight (suc (suc (suc (suc (suc zero))))) l = there (there (there (there (there here))))
-  in_eight (suc (suc (suc (suc (suc (suc zero)))))) l = there (there (there (there (there (there here)))))
-  in_eight (suc (suc (suc (suc (suc (suc (suc zero))))))) l = there (there (there (there (there (there (there here))))))
-  in_eight (suc (suc (suc (suc (suc (suc (suc (suc k)))))))) l = absurd (omega arith)
+  in_eight k l = in_rising 0 8 k (omega arith) l
 
   -- after a check of all, every table is in step
   pub all_calm : (t : SlotTable) (q : List ℕ) → Fit F m t q → (k : ℕ) → lags (shadow_at k (resync_all m t)) ≡ false
   all_calm t q fit k = go (shadow_at k (resync_all m t)) refl
     where
       go : (x : Shadow) → shadow_at k (resync_all m t) ≡ x → lags (shadow_at k (resync_all m t)) ≡ false
-      go Nothing e = ap lags e
-      go (Directory f) e = ap lags e
       go (Table f y) e = in_calm k eight t q fit (in_eight k (small_slot (resync_all m t) k (each eight t q fit).fit.roomy (ap is_nothing e)))
-      go (Split f) e = ap lags e
+      go x e = ap lags e

@@ -1,6 +1,6 @@
 -- Every run is good, from its opening on, and so every call answers by the laws.
 use Rattle.std.proofs.Common.{◌≡◌, ℕ, zero, suc, ◌+◌, ◌<◌, ◌≤◌, Bool, true, false, cond, ◌||◌, ltb, [], is_some, Some, None, Option, sym, refl, ap, ◌∙◌, subst, ap₂, ⊎_elim, arith}
-use Rattle.std.proofs.lemmas.Bool.{cases_eq, eq-eqb, false≢true, ne_eqb}
+use Rattle.std.proofs.lemmas.Bool.{cases_eq, cond_both, eq-eqb, false≢true, ne_eqb}
 use Rattle.memory.specs.Memory.{Memory, has_words, stored}
 use Rattle.paging.specs.Formats.{Format, LawsOfMarking}
 use Rattle.paging.specs.Terms.{supervisor}
@@ -129,22 +129,10 @@ module _ (F : Format) (laws : LawsOfMarking F) (R : Rule) (kept_order : OrdersKe
       go (Some r) q = (step_next h s c (good_run run) (ap is_some q)).0
       go None q = subst (λ (y : Option Running). LawfulReply F o h c (step_in R F s c y).reply) (sym q) (closed_lawful s c)
         where
-          either : (b : Bool) (x y : Ended) → DoneBy no_exit x.reply → DoneBy no_exit y.reply → DoneBy no_exit (cond b x y).reply
-          either true x y p q = p
-          either false x y p q = q
-
           closed_lawful : (s : State) (c : Call) → LawfulReply F o h c (step_in R F s c None).reply
-          closed_lawful s (open_run f n) = either (ltb n 2 || ltb 8 n) (refuse s 4) _ tt (either (has_words (s.memory f)) (record { reply = done no_exit; next = opened_at R s.memory f n }) (refuse s 3) refl tt)
-          closed_lawful s (access k a w) = tt
-          closed_lawful s flush_all = tt
-          closed_lawful s (flush_page a) = tt
-          closed_lawful s (switch_root f) = tt
-          closed_lawful s (set_mode p) = tt
-          closed_lawful s (deliver x) = tt
-          closed_lawful s (give_up x) = tt
-          closed_lawful s close_run = tt
-          closed_lawful s (poke f i w) =
-              either (ltb 1023 i) (refuse s 8) _ tt (either (has_words (s.memory f)) (record { reply = done no_exit; next = record { memory = stored s.memory f i w; run = None } }) (refuse s 3) refl tt)
+          closed_lawful s (open_run f n) = cond_both (ltb n 2 || ltb 8 n) (refuse s 4) _ (λ e. DoneBy no_exit e.reply) (λ b. tt) (λ b. cond_both (has_words (s.memory f)) _ (refuse s 3) (λ e. DoneBy no_exit e.reply) (λ d. refl) (λ d. tt))
+          closed_lawful s (poke f i w) = cond_both (ltb 1023 i) (refuse s 8) _ (λ e. DoneBy no_exit e.reply) (λ b. tt) (λ b. cond_both (has_words (s.memory f)) _ (refuse s 3) (λ e. DoneBy no_exit e.reply) (λ d. refl) (λ d. tt))
+          closed_lawful s c = tt
 
 pub calls_lawful : (F : Format) → LawsOfMarking F → (R : Rule) → OrdersKept R → CallsLawful F R
 calls_lawful F laws R kept s c = record { law = λ o h run. law_of F laws R kept o h s c run; on = λ o h run e. goes run c e }
