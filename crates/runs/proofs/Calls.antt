@@ -1,6 +1,6 @@
 -- Each call keeps a run good, and answers by the laws.
 use Rattle.std.proofs.Common.{◌≡◌, ℕ, ◌+◌, ◌%◌, ◌<◌, Bool, true, false, cond, eqb, leb, List, [], ◌∷◌, is_some, Some, None, Option, sym, refl, ap, ◌∙◌, subst, ⊎_elim, arith}
-use Rattle.std.proofs.lemmas.Bool.{cases_eq, eq-eqb, eqb-true, ne_eqb}
+use Rattle.std.proofs.lemmas.Bool.{cases_eq, cond_both, eq-eqb, eqb-true, ne_eqb}
 use Rattle.memory.specs.Memory.{Memory, has_words}
 use Rattle.paging.specs.Formats.{Format, LawsOfMarking}
 use Rattle.paging.specs.Terms.{directory_level, store}
@@ -16,11 +16,11 @@ use Rattle.shadow.specs.declared.slots.SlotTable.{SlotTable}
 use Rattle.slot.specs.declared.slots.SyncState.TheVariants.{Unsynchronised}
 use Rattle.slot.specs.declared.slots.Thing.{Thing}
 use Rattle.slot.specs.declared.slots.Thing.TheVariants as thing
-use Rattle.runs.specs.Histories.{Event, History, Opening, Sometime, covers, earlier, failed, flushed_all, flushed_page, marks_in, memory_at, mode_at, moded, root_at, settled, store_of, stores_in, switched, went}
+use Rattle.runs.specs.Histories.{Event, History, Opening, Sometime, covers, earlier, exit_of, failed, flushed_all, flushed_page, marks_in, memory_at, mode_at, moded, root_at, settled, store_of, stores_in, switched, went}
 use Rattle.runs.specs.Laws.{after_access, after_call, asked_now, fault, guest_walk, just, LawfulAnswer, LawfulFault, LawfulReply, Recent, Tallied}
 use Rattle.runs.specs.Laws as laws_of
-use Rattle.runs.specs.Terms.{Call, access, close_run, deliver, flush, flush_all, flush_page, give_up, open_run, page_of, poke, set_mode, switch_root}
-use Rattle.runs.specs.Unit.{Ended, Hart, Running, State, Taken, access_by, access_ends, asked_in, call_limit, count_in, drop_below, drop_page, hit_answer, hit_target, in_run, is_pending, obtain, refuse, resync_all, root_slot, switch_ends, unless_full, unless_pending, walk_ends}
+use Rattle.runs.specs.Terms.{Call, access, close_run, deliver, flush, flush_all, flush_page, give_up, open_run, page_of, poke, set_mode, switch_root, Through, no_exit}
+use Rattle.runs.specs.Unit.{Ended, Hart, RecordedFault, Running, State, Taken, access_by, access_ends, asked_in, call_limit, count_in, drop_below, drop_page, hit_answer, hit_target, in_run, is_pending, obtain, refuse, resync_all, root_slot, settled_as, switch_ends, unless_full, unless_pending, walk_ends}
 use Rattle.runs.proofs.Basics.{elim_eq}
 use Rattle.runs.proofs.Counting.{tallied_more, tallied_still}
 use Rattle.runs.proofs.Fewer.{Fewer, fewer_empty, fewer_same}
@@ -32,8 +32,8 @@ use Rattle.runs.proofs.Memories.{raises_refl}
 use Rattle.runs.proofs.Missing.{hit_alike, miss_good, miss_lawful, root_slot_is, same_page}
 use Rattle.runs.proofs.Moments.{SmallWrites}
 use Rattle.runs.proofs.Places.{roomy_put, small_slot, view_put}
-use Rattle.runs.proofs.Resyncs.{Turned, all_calm, each}
-use Rattle.runs.proofs.Shadows.{directory_here, filled, is_directory_at, named_no_directory}
+use Rattle.runs.proofs.Resyncs.{Turned, all_calm, each, turned_directory}
+use Rattle.runs.proofs.Shadows.{calm_no_table, directory_here, filled, is_directory_at, named_no_directory}
 use Rattle.runs.proofs.Sound.{Linked, Raises, Sound, guards, named, opens, piece_opens}
 use Rattle.runs.proofs.Sounds.{sound_empty, sound_store}
 use Rattle.runs.proofs.Taking.{Got, free_any, got, told_fit}
@@ -131,14 +131,12 @@ module _ (F : Format) (laws : LawsOfMarking F) (R : Rule) (kept_order : OrdersKe
         same_memory : memory_at o (e ∷ h) ≡ m
         same_memory = ap (λ xs. put_all (put_all m xs) (stores_in e)) marks ∙ ap (put_all m) stores
 
-    fault_ready : (a : Asked) (x : Failure) (b : Asked) → Recent o b.kind (page_of b.address) b.privilege (failed a x ∷ h) → is_some (hit_target F b root r.table) ≡ true
-    fault_ready a x b (laws_of.since e z) = absurd (omega arith)
-
-    mode_ready : (p : ℕ) (b : Asked) → Recent o b.kind (page_of b.address) b.privilege (moded p ∷ h) → is_some (hit_target F b root r.table) ≡ true
-    mode_ready p b (laws_of.since e z) = good.ready b z
-
-    settled_ready : (b : Asked) → Recent o b.kind (page_of b.address) b.privilege (settled ∷ h) → is_some (hit_target F b root r.table) ≡ true
-    settled_ready b (laws_of.since e z) = good.ready b z
+    -- after an event that is no access that came through, a recent one came before it, and the event has no exit
+    came_before : {A : Asked → Type 0} (e : Event) → ((a : Asked) (w : ℕ) (x : Through) → e ≡ went a w x → ⊥)
+        → (exit_of e ≡ no_exit → (b : Asked) → Recent o b.kind (page_of b.address) b.privilege h → A b)
+        → (b : Asked) → Recent o b.kind (page_of b.address) b.privilege (e ∷ h) → A b
+    came_before e other before b (just {a} {w} {r = x} k p v free) = absurd (other a w x refl)
+    came_before e other before b (laws_of.since q z) = before q b z
 
     fault_lawful : (a : Asked) (x : Failure) → a.privilege ≡ mode_at o h → hit_target F a root r.table ≡ None → walk_from F a m root ≡ faulted x → LawfulFault F o h a x
     fault_lawful a x privilege none e = record {
@@ -163,7 +161,7 @@ module _ (F : Format) (laws : LawsOfMarking F) (R : Rule) (kept_order : OrdersKe
     )
     walk_fine a w privilege none (faulted x) e = (
       fault_lawful a x privilege none e,
-      λ k z. goes_on _ _ _ refl (still_good (failed a x) _ refl refl (λ p. refl) refl refl good.mode (tallied_more (failed a x) 0 h r.hart.tallies refl good.tallied) (fault_ready a x)) k z,
+      λ k z. goes_on _ _ _ refl (still_good (failed a x) _ refl refl (λ p. refl) refl refl good.mode (tallied_more (failed a x) 0 h r.hart.tallies refl good.tallied) (came_before (failed a x) (λ b u y q. cc) (λ q. absurd (omega arith)))) k z,
     )
 
     access_fine : (a : Asked) (w : ℕ) → a.privilege ≡ mode_at o h → FineAccess a w (access_ends R F s r a w)
@@ -180,26 +178,6 @@ module _ (F : Format) (laws : LawsOfMarking F) (R : Rule) (kept_order : OrdersKe
 
     -- FLUSHES
 
-    flush_silent : {A : Type 0} (b : Asked) → Recent o b.kind (page_of b.address) b.privilege (flushed_all ∷ h) → A
-    flush_silent b (laws_of.since e z) = absurd (omega arith)
-
-    page_silent : {A : Type 0} (a : ℕ) (b : Asked) → Recent o b.kind (page_of b.address) b.privilege (flushed_page a ∷ h) → A
-    page_silent a b (laws_of.since e z) = absurd (omega arith)
-
-    switch_silent : {A : Type 0} (f : ℕ) (b : Asked) → Recent o b.kind (page_of b.address) b.privilege (switched f ∷ h) → A
-    switch_silent f b (laws_of.since e z) = absurd (omega arith)
-
-    -- slots where each shadows what it did have the same directories
-    dir_kept : (n : SlotTable) → ((k : ℕ) (x : Thing) → shadows (shadow_at k n) x ≡ shadows (shadow_at k r.table) x) → (i f : ℕ)
-        → (shadow_at i n ≡ Directory f → shadow_at i r.table ≡ Directory f) × (shadow_at i r.table ≡ Directory f → shadow_at i n ≡ Directory f)
-    dir_kept n things i f = (
-      λ e. is_directory_at f (shadow_at i r.table) (sym (things i (thing.Directory f)) ∙ ap (is_directory_of f) e ∙ directory_here f),
-      λ e. is_directory_at f (shadow_at i n) (things i (thing.Directory f) ∙ ap (is_directory_of f) e ∙ directory_here f),
-    )
-
-    lag_clash : {A : Type 0} (n : SlotTable) → ((k : ℕ) → lags (shadow_at k n) ≡ false) → (k f : ℕ) → shadow_at k n ≡ Table f Unsynchronised → A
-    lag_clash n calm k f e = let c : true ≡ false = sym (ap lags e) ∙ calm k in cc
-
     all_turned : Turned r.table (resync_all m r.table)
     all_turned = (each F m (0 ∷ 1 ∷ 2 ∷ 3 ∷ 4 ∷ 5 ∷ 6 ∷ 7 ∷ []) r.table r.order good.fit).turned
 
@@ -212,16 +190,16 @@ module _ (F : Format) (laws : LawsOfMarking F) (R : Rule) (kept_order : OrdersKe
       mode = good.mode;
       fit = all_fit;
       rooted = ap (λ (i : ℕ). shadow_at i (resync_all m r.table)) (root_slot_is F m (resync_all m r.table) r.order all_fit root I at) ∙ at;
-      were = λ i k e never. good.were i k ((dir_kept (resync_all m r.table) all_turned.things i k).0 e) never.1;
+      were = λ i k e never. good.were i k ((turned_directory all_turned i k).0 e) never.1;
       raised = (raises_refl F m, tt, good.raised);
       tallied = tallied_more flushed_all 0 h r.hart.tallies refl good.tallied;
       bounded = good.bounded;
-      past = λ i b u k x y c z e l lag leaf. lag_clash (resync_all m r.table) (all_calm F m r.table r.order good.fit) k x lag;
-      ready = λ b z. flush_silent b z;
+      past = λ i b u k x y c z e l lag leaf. calm_no_table (all_calm F m r.table r.order good.fit k) lag;
+      ready = came_before flushed_all (λ b u y q. cc) (λ q. absurd (omega arith));
     }
       where
         at : shadow_at I (resync_all m r.table) ≡ Directory root
-        at = (dir_kept (resync_all m r.table) all_turned.things I root).1 good.rooted
+        at = (turned_directory all_turned I root).1 good.rooted
 
     -- a page flush: the leaf of the page is gone
     record Dropped (a : ℕ) (n : SlotTable) : Type 0 where
@@ -280,7 +258,7 @@ module _ (F : Format) (laws : LawsOfMarking F) (R : Rule) (kept_order : OrdersKe
       tallied = tallied_more (flushed_page a) 0 h r.hart.tallies refl good.tallied;
       bounded = good.bounded;
       past = λ i b u k x y c z e l lag leaf. ⊎_elim (λ q. absurd (covered i b u k y c z q e l leaf)) (λ q. uncovered i b u k x y c z q e l lag leaf) (cases_eq (page_of a) (page_of b));
-      ready = λ b z. page_silent a b z;
+      ready = came_before (flushed_page a) (λ b u y q. cc) (λ q. absurd (omega arith));
     }
       where
         d : Dropped a (drop_page root a r.table)
@@ -320,14 +298,14 @@ module _ (F : Format) (laws : LawsOfMarking F) (R : Rule) (kept_order : OrdersKe
       fit = k.fit;
       rooted = subst (λ (n : ℕ). shadow_at (root_slot n (T f).table) (T f).table ≡ Directory n) (sym re) (ap (λ (i : ℕ). shadow_at i (T f).table) (root_slot_is F m (T f).table (T f).order k.fit f (T f).slot at) ∙ at);
       were = λ i n e never. ⊎_elim
-          (λ z. good.were i n ((dir_kept (resync_all m r.table) all_turned.things i n).0 z) never.1)
+          (λ z. good.were i n ((turned_directory all_turned i n).0 z) never.1)
           (λ z. let u : f ≡ n = cc in never.0 u)
           (k.dirs i n e);
       raised = (raises_refl F m, tt, good.raised);
       tallied = tallied;
       bounded = good.bounded;
-      past = λ i b u s x y c z e l lag leaf. lag_clash (resync_all m r.table) (all_calm F m r.table r.order good.fit) s x (k.fewer.lagging s x lag);
-      ready = λ b z. switch_silent f b z;
+      past = λ i b u s x y c z e l lag leaf. calm_no_table (all_calm F m r.table r.order good.fit s) (k.fewer.lagging s x lag);
+      ready = came_before (switched f) (λ b u y q. cc) (λ q. absurd (omega arith));
     }
       where
         k : Got F R kept_order m None (thing.Directory f) (resync_all m r.table) (T f)
@@ -347,26 +325,13 @@ module _ (F : Format) (laws : LawsOfMarking F) (R : Rule) (kept_order : OrdersKe
 
     refused_fine : (c : Call) (n : ℕ) → Fine c (refuse s n)
     refused_fine (open_run f k) n = (tt, same_run)
-    refused_fine (access k a w) n = (tt, same_run)
-    refused_fine flush_all n = (tt, same_run)
-    refused_fine (flush_page a) n = (tt, same_run)
-    refused_fine (switch_root f) n = (tt, same_run)
-    refused_fine (set_mode p) n = (tt, same_run)
-    refused_fine (deliver x) n = (tt, same_run)
-    refused_fine (give_up x) n = (tt, same_run)
-    refused_fine close_run n = (tt, same_run)
-    refused_fine (poke f i w) n = (tt, same_run)
-
-    -- one way or the other
-    either_fine : (c : Call) (b : Bool) (x y : Ended) → (b ≡ true → Fine c x) → (b ≡ false → Fine c y) → Fine c (cond b x y)
-    either_fine c true x y p q = p refl
-    either_fine c false x y p q = q refl
+    refused_fine c n = (tt, same_run)
 
     pending_fine : (c : Call) (e : Ended) → Fine c e → Fine c (unless_pending s r e)
-    pending_fine c e p = either_fine c (is_some r.hart.pending) (refuse s 6) e (λ z. refused_fine c 6) (λ z. p)
+    pending_fine c e p = cond_both (is_some r.hart.pending) (refuse s 6) e (Fine c) (λ z. refused_fine c 6) (λ z. p)
 
     full_fine : (c : Call) (e : Ended) → Fine c e → Fine c (unless_full s r e)
-    full_fine c e p = pending_fine c _ (either_fine c (leb call_limit r.hart.tallies.calls) (refuse s 7) e (λ z. refused_fine c 7) (λ z. p))
+    full_fine c e p = pending_fine c _ (cond_both (leb call_limit r.hart.tallies.calls) (refuse s 7) e (Fine c) (λ z. refused_fine c 7) (λ z. p))
 
     -- the access is made at the privilege in force
     asked_same : (k a : ℕ) → asked_in r k a ≡ asked_now F o h k a
@@ -377,24 +342,25 @@ module _ (F : Format) (laws : LawsOfMarking F) (R : Rule) (kept_order : OrdersKe
         let e : Ended = access_ends R F s r (asked_in r k a) w in
         subst (λ q. LawfulAnswer F o h q e.reply × Next (after_access q w h e.reply) e) (asked_same k a) (access_fine (asked_in r k a) w good.mode)
 
+    settled_next : (l : Option RecordedFault) → Next (settled ∷ h) (settled_as s r l)
+    settled_next l k e =
+        goes_on _ _ _ refl
+        (still_good settled _ refl refl (λ n. refl) refl refl good.mode (tallied_still settled h r.hart.tallies refl good.tallied) (came_before settled (λ b u y q. cc) (λ q. good.ready))) k e
+
     pub call_fine : (c : Call) → Fine c (in_run R F s r c)
     call_fine (open_run f k) = refused_fine (open_run f k) 1
     call_fine (access k a w) =
-        full_fine (access k a w) _ (either_fine (access k a w) (eqb (a % 4) 0) _ (refuse s 5) (λ z. call_access k a w) (λ z. refused_fine (access k a w) 5))
+        full_fine (access k a w) _ (cond_both (eqb (a % 4) 0) _ (refuse s 5) (Fine (access k a w)) (λ z. call_access k a w) (λ z. refused_fine (access k a w) 5))
     call_fine flush_all = full_fine flush_all _ (refl, λ k z. goes_on _ _ _ refl flush_good k z)
     call_fine (flush_page a) = full_fine (flush_page a) _ (refl, λ k z. goes_on _ _ _ refl (page_good a) k z)
     call_fine (switch_root f) =
-        full_fine (switch_root f) _ (either_fine (switch_root f) (has_words (m f)) _ (refuse s 3) (λ z. switched_fine f z) (λ z. refused_fine (switch_root f) 3))
+        full_fine (switch_root f) _ (cond_both (has_words (m f)) _ (refuse s 3) (Fine (switch_root f)) (λ z. switched_fine f z) (λ z. refused_fine (switch_root f) 3))
       where
         switched_fine : (f : ℕ) → has_words (m f) ≡ true → Fine (switch_root f) (switch_ends R s r f)
         switched_fine f has = unfold switch_ends in (refl, λ k z. goes_on _ _ _ refl (switch_good f has _ refl refl (tallied_more (switched f) _ h r.hart.tallies refl good.tallied)) k z)
     call_fine (set_mode p) =
-        pending_fine (set_mode p) _ (refl, λ k z. goes_on _ _ _ refl (still_good (moded p) _ refl refl (λ n. refl) refl refl refl (tallied_still (moded p) h r.hart.tallies refl good.tallied) (mode_ready p)) k z)
-    call_fine (deliver x) =
-        either_fine (deliver x) (is_pending x r.hart.pending) _ (refuse s 10)
-        (λ z. (refl, λ k e. goes_on _ _ _ refl (still_good settled _ refl refl (λ n. refl) refl refl good.mode (tallied_still settled h r.hart.tallies refl good.tallied) settled_ready) k e)) (λ z. refused_fine (deliver x) 10)
-    call_fine (give_up x) =
-        either_fine (give_up x) (is_pending x r.hart.pending) _ (refuse s 10)
-        (λ z. (refl, λ k e. goes_on _ _ _ refl (still_good settled _ refl refl (λ n. refl) refl refl good.mode (tallied_still settled h r.hart.tallies refl good.tallied) settled_ready) k e)) (λ z. refused_fine (give_up x) 10)
+        pending_fine (set_mode p) _ (refl, λ k z. goes_on _ _ _ refl (still_good (moded p) _ refl refl (λ n. refl) refl refl refl (tallied_still (moded p) h r.hart.tallies refl good.tallied) (came_before (moded p) (λ b u y q. cc) (λ q. good.ready))) k z)
+    call_fine (deliver x) = cond_both (is_pending x r.hart.pending) _ (refuse s 10) (Fine (deliver x)) (λ z. (refl, settled_next _)) (λ z. refused_fine (deliver x) 10)
+    call_fine (give_up x) = cond_both (is_pending x r.hart.pending) _ (refuse s 10) (Fine (give_up x)) (λ z. (refl, settled_next _)) (λ z. refused_fine (give_up x) 10)
     call_fine close_run = pending_fine close_run _ (good.tallied, λ k z. cc)
     call_fine (poke f i w) = refused_fine (poke f i w) 1

@@ -10,12 +10,13 @@ use Rattle.slot.specs.declared.slots.Shadow.TheVariants.{Nothing, Directory, Tab
 use Rattle.shadow.specs.declared.slots.SlotTable.{SlotTable}
 use Rattle.slot.specs.declared.slots.SyncState.TheVariants.{Protected, Unsynchronised}
 use Rattle.slot.specs.declared.slots.Thing.{Thing}
+use Rattle.slot.specs.declared.slots.Thing.TheVariants as thing
 use Rattle.runs.specs.Unit.{listed, resync, resync_all, resync_each}
 use Rattle.runs.proofs.Basics.{by_eq}
 use Rattle.runs.proofs.Fewer.{Fewer, fewer_check, fewer_same, fewer_trans}
 use Rattle.runs.proofs.Good.{Fit, refit}
 use Rattle.runs.proofs.Places.{count_resync, resync_checked, resync_kept, roomy_resync, small_slot}
-use Rattle.runs.proofs.Shadows.{alike_shadows}
+use Rattle.runs.proofs.Shadows.{alike_shadows, directory_kept}
 use Rattle.runs.proofs.Sound.{Sound}
 use Rattle.runs.proofs.Sounds.{checked_alike, sound_check}
 use Rattle.runs.proofs.Views.{View, v_check, v_guard, view}
@@ -38,6 +39,10 @@ turned_trans p q = record {
   things = λ k x. q.things k x ∙ p.things k x;
   vacant = λ k e. q.vacant k (p.vacant k e);
 }
+
+pub turned_directory : {t n : SlotTable} → Turned t n → (i f : ℕ)
+    → (shadow_at i n ≡ Directory f → shadow_at i t ≡ Directory f) × (shadow_at i t ≡ Directory f → shadow_at i n ≡ Directory f)
+turned_directory u i f = (directory_kept f (u.things i (thing.Directory f)), directory_kept f (sym (u.things i (thing.Directory f))))
 
 -- one checked slot, as a view
 module _ (m : Memory) (i f : ℕ) (v : View) where

@@ -34,6 +34,10 @@ is_split_at f x e = cc
 pub directory_here : (f : ℕ) → is_directory_of f (Directory f) ≡ true
 directory_here f = eq-eqb f f refl
 
+-- a shadow of what another one shadows is of the same directory
+pub directory_kept : (f : ℕ) {x y : Shadow} → shadows x (thing.Directory f) ≡ shadows y (thing.Directory f) → x ≡ Directory f → y ≡ Directory f
+directory_kept f {x} {y} same e = is_directory_at f y (sym same ∙ ap (is_directory_of f) e ∙ directory_here f)
+
 pub table_here : (f : ℕ) (y : SyncState) → is_table_of f (Table f y) ≡ true
 table_here f y = eq-eqb f f refl
 
@@ -71,6 +75,10 @@ pub new_calm : (x : Thing) → lags (shadow_of x) ≡ false
 new_calm (thing.Directory f) = refl
 new_calm (thing.Table f) = refl
 new_calm (thing.Split f) = refl
+
+-- no unsynchronised table is in step
+pub calm_no_table : {A : Type 0} {x : Shadow} {f : ℕ} → lags x ≡ false → x ≡ Table f Unsynchronised → A
+calm_no_table calm e = cc
 
 pub new_protected : (x : Thing) (f : ℕ) → shadow_of x ≡ Table f Unsynchronised → ⊥
 new_protected x f e = cc (new_calm x)

@@ -17,7 +17,7 @@ use Rattle.runs.proofs.Basics.{by_eq}
 use Rattle.runs.proofs.Fewer.{Fewer, fewer_evict, fewer_fill, fewer_guard, fewer_same, fewer_trans}
 use Rattle.runs.proofs.Good.{Fit, refit}
 use Rattle.runs.proofs.Places.{empty_none, empty_some, find_none, find_some, permitted_if, permitted_says, roomy_evict, roomy_fill, roomy_guard, view_evict, view_fill, view_guard}
-use Rattle.runs.proofs.Resyncs.{Turned, resynced, turned_same}
+use Rattle.runs.proofs.Resyncs.{Turned, resynced, turned_directory, turned_same}
 use Rattle.runs.proofs.Shadows.{directory_here, is_directory_at, is_nothing_at, new_calm, new_directory, new_shadows, nothing_shadows, table_here}
 use Rattle.runs.proofs.Sound.{Sound}
 use Rattle.runs.proofs.Sounds.{sound_evict, sound_fill_directory, sound_fill_split, sound_fill_table}
@@ -245,12 +245,12 @@ module _ (F : Format) (R : Rule) (kept_order : OrdersKept R) (m : Memory) where
       dirs : (i f : ℕ) → cond (eqb i k.slot) (shadow_of x) (shadow_at i (ready_for m x k.table)) ≡ Directory f → (shadow_at i t ≡ Directory f) ⊎ (x ≡ thing.Directory f)
       dirs i f = by_eq i k.slot (λ b. cond b (shadow_of x) (shadow_at i (ready_for m x k.table)) ≡ Directory f → (shadow_at i t ≡ Directory f) ⊎ (x ≡ thing.Directory f))
           (λ p e. inr (new_directory x f e))
-          (λ p e. inl (is_directory_at f (shadow_at i t) (r.were i (thing.Directory f) (sym (d.turned.things i (thing.Directory f)) ∙ ap (is_directory_of f) e ∙ directory_here f))))
+          (λ p e. inl (is_directory_at f (shadow_at i t) (r.were i (thing.Directory f) (ap (is_directory_of f) ((turned_directory d.turned i f).0 e) ∙ directory_here f))))
 
       keeps : (root i : ℕ) → shadow_at i k.table ≡ Directory root → cond (eqb i k.slot) (shadow_of x) (shadow_at i (ready_for m x k.table)) ≡ Directory root
       keeps root i e = by_eq i k.slot (λ b. cond b (shadow_of x) (shadow_at i (ready_for m x k.table)) ≡ Directory root)
-          (λ p. let u : Nothing ≡ Directory root = sym r.vacant ∙ sym (ap (λ (j : ℕ). shadow_at j k.table) p) ∙ e in cc)
-          (λ p. is_directory_at root (shadow_at i (ready_for m x k.table)) (d.turned.things i (thing.Directory root) ∙ ap (is_directory_of root) e ∙ directory_here root))
+          (λ p. cc (r.vacant, ap (λ (j : ℕ). shadow_at j k.table) p))
+          (λ p. (turned_directory d.turned i root).1 e)
 
   pub took : (kept : Option ℕ) (x : Thing) (t : SlotTable) (q : List ℕ) → Fit F m t q → NoneOf x t → HasFrame m x → (first_empty t ≡ None → Free kept t) → Got kept x t (take_slot R m kept x t q)
   unfolding take_slot
@@ -266,8 +266,8 @@ module _ (F : Format) (R : Rule) (kept_order : OrdersKept R) (m : Memory) where
         is = a.turned.things i x ∙ f.0;
         calm = a.calm;
         fewer = a.turned.fewer;
-        dirs = λ k g z. inl (is_directory_at g (shadow_at k t) (sym (a.turned.things k (thing.Directory g)) ∙ ap (is_directory_of g) z ∙ directory_here g));
-        keeps = λ root k z w. is_directory_at root (shadow_at k (resync m i t)) (a.turned.things k (thing.Directory root) ∙ ap (is_directory_of root) w ∙ directory_here root);
+        dirs = λ k g z. inl ((turned_directory a.turned k g).0 z);
+        keeps = λ root k z w. (turned_directory a.turned k root).1 w;
       }
 
   pub got : (kept : Option ℕ) (x : Thing) (t : SlotTable) (q : List ℕ) → Fit F m t q → HasFrame m x → (first_empty t ≡ None → Free kept t) → Got kept x t (obtain R m kept x t q)
