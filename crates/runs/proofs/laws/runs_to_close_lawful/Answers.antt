@@ -1,6 +1,0 @@
-use Rattle.std.proofs.Common.{rules}
-use Rattle.runs.proofs.Wholes.{runs_to_close_lawful}
-use Rattle.runs.proofs.laws.runs_to_close_lawful.Goals as goal
-
-pub returns : goal.returns
-returns g c = runs_to_close_lawful g.F.PageFormat.format (search (rules, g.met.F.PageFormat)) g.P.EvictionPolicy.rule (search (rules, g.met.P.EvictionPolicy))
