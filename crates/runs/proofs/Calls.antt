@@ -38,7 +38,7 @@ use Rattle.runs.proofs.Sound.{Linked, Raises, Sound, guards, named, opens, piece
 use Rattle.runs.proofs.Sounds.{sound_empty, sound_store}
 use Rattle.runs.proofs.Taking.{Got, free_any, got, told_fit}
 use Rattle.runs.proofs.Views.{v_put, view}
-use Rattle.runs.proofs.Walking.{guest_faulted}
+use Rattle.runs.proofs.Walking.{guest_walked}
 use Rattle.runs.proofs.Windows.{present, table_index_small, word_index_small}
 
 target_alike : (F : Format) (a b : Asked) (root : ℕ) (t : SlotTable) → a.kind ≡ b.kind → page_of a.address ≡ page_of b.address → a.privilege ≡ b.privilege → hit_target F b root t ≡ hit_target F a root t
@@ -147,7 +147,7 @@ module _ (F : Format) (laws : LawsOfMarking F) (R : Rule) (kept_order : OrdersKe
     }
       where
         by_root : guest_walk F a (root_at o h) m ≡ fault x
-        by_root = subst (λ (k : ℕ). guest_walk F a k m ≡ fault x) good.root (guest_faulted F a root m e)
+        by_root = subst (λ (k : ℕ). guest_walk F a k m ≡ fault x) good.root (guest_walked F a root m e)
 
     -- ACCESSES
 

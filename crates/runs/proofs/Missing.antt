@@ -36,7 +36,7 @@ use Rattle.runs.proofs.Sounds.{sound_raise}
 use Rattle.runs.proofs.Storing.{Kept, New, Stands, flag_of, kept_load, kept_store, new_leaf, new_piece, put_shadow, stands_put}
 use Rattle.runs.proofs.Taking.{HasFrame, told_fit}
 use Rattle.runs.proofs.Views.{View, view}
-use Rattle.runs.proofs.Walking.{Arrived, arrived, below, guest_reached, large, lower, raises_due, settled_large, settled_small, small, small_due, up_allows_one, up_allows_two, up_leads, up_named, up_pages, upper}
+use Rattle.runs.proofs.Walking.{Arrived, arrived, below, guest_walked, large, lower, raises_due, settled_large, settled_small, small, small_due, up_allows, up_allows_two, up_leads, up_named, up_pages, upper}
 use Rattle.runs.proofs.Windows.{before_store, directory_index_small, has_at, last_is, present, table_index_small, word_index_small}
 
 -- a page has its indices
@@ -110,7 +110,7 @@ module _ (F : Format) (laws : LawsOfMarking F) (a : Asked) (m : Memory) (root : 
       subst (Found F a root (with_due es) (below F a m root + table_index a.address))
       (sym (up_named F laws up ∙ named_by (F.reads directory_level (upper a m root)) false t))
       (split (below F a m root) refl
-      (large_hits F a.kind a.privilege (upper a (with_due es) root) b (up_allows_one F laws up a.kind a.privilege ∙ ok) (settled_large F laws a m root hr) (own_flag a.kind)))
+      (large_hits F a.kind a.privilege (upper a (with_due es) root) b (up_allows F laws [] [] up a.kind a.privilege ∙ ok) (settled_large F laws a m root hr) (own_flag a.kind)))
   found {f} es (small hr l t hg p ok hf) =
       let way : Arrived F a m root f es = small hr l t hg p ok hf in
       let up = first_up f es way in
@@ -335,4 +335,4 @@ module _ (F : Format) (laws : LawsOfMarking F) (R : Rule) (kept_order : OrdersKe
   }
     where
       by_root : guest_walk F a (root_at o h) m ≡ to f marks
-      by_root = subst (λ (k : ℕ). guest_walk F a k m ≡ to f marks) good.root (guest_reached F a root m walked)
+      by_root = subst (λ (k : ℕ). guest_walk F a k m ≡ to f marks) good.root (guest_walked F a root m walked)
