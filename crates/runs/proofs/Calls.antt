@@ -276,8 +276,7 @@ module _ (F : Format) (laws : LawsOfMarking F) (R : Rule) (kept_order : OrdersKe
             let p = same_page a b q in
             let own : i ≡ I = d.fit.sound.unique i I (thing.Directory root) (ap (is_directory_of root) e ∙ directory_here root) (ap (is_directory_of root) at ∙ directory_here root) in
             let link : place_at I (directory_index a) (drop_page root a r.table) ≡ Link u k = ap (λ (n : ℕ). place_at I n (drop_page root a r.table)) p.0 ∙ ap (λ (n : ℕ). place_at n (directory_index b) (drop_page root a r.table)) (sym own) ∙ l in
-            let empty : Empty ≡ Leaf y c z = sym (d.gone u k link) ∙ ap (λ (n : ℕ). place_at k n (drop_page root a r.table)) p.1 ∙ leaf in
-            cc
+            cc (d.gone u k link, ap (λ (n : ℕ). place_at k n (drop_page root a r.table)) p.1, leaf)
 
         uncovered : (i b u k x y c : ℕ) (z : Bool) → (page_of a ≡ page_of b → ⊥) → shadow_at i (drop_page root a r.table) ≡ Directory root → place_at i (directory_index b) (drop_page root a r.table) ≡ Link u k
             → shadow_at k (drop_page root a r.table) ≡ Table x Unsynchronised → place_at k (table_index b) (drop_page root a r.table) ≡ Leaf y c z → Sometime o (Then F root b u x y) (page_of b) (flushed_page a ∷ h)

@@ -18,7 +18,7 @@ use Rattle.runs.proofs.Basics.{by_eq₂}
 use Rattle.runs.proofs.Fewer.{Fewer, LeafThere}
 use Rattle.runs.proofs.Good.{Fit, refit}
 use Rattle.runs.proofs.Places.{roomy_put, small_slot, view_put}
-use Rattle.runs.proofs.Shadows.{directory_here, filled, named_no_directory}
+use Rattle.runs.proofs.Shadows.{calm_no_table, directory_here, filled, named_no_directory}
 use Rattle.runs.proofs.Sound.{Leads, Sound, Up, named, same}
 use Rattle.runs.proofs.Sounds.{sound_link}
 use Rattle.runs.proofs.Taking.{Got, HasFrame, free_but, got}
@@ -120,9 +120,7 @@ module _ (F : Format) (R : Rule) (kept_order : OrdersKept R) (m : Memory) (root 
             ⊎_elim
             (λ y.
             let at : k.slot ≡ s = cc y.2 in
-            let lag : shadow_at s k.table ≡ Table f Unsynchronised = sym (put_sh (view k.table) I d (Link w k.slot) s) ∙ z.lag in
-            let n : true ≡ false = sym (ap lags lag) ∙ sym (ap (λ (n : ℕ). lags (shadow_at n k.table)) at) ∙ g.calm in
-            cc)
+            calm_no_table g.calm (ap (λ (n : ℕ). shadow_at n k.table) at ∙ sym (put_sh (view k.table) I d (Link w k.slot) s) ∙ z.lag))
             (λ y.
             olds_fewer root g.fewer i e u s f j x c
             (record { dir = sym (put_sh (view k.table) I d (Link w k.slot) i) ∙ z.dir; link = y; lag = sym (put_sh (view k.table) I d (Link w k.slot) s) ∙ z.lag; leaf = old_leaf s j x c z.leaf }))

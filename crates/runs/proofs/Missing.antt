@@ -52,7 +52,7 @@ root_slot_is F m t q fit root i e = go (find_slot (thing.Directory root) t) refl
 
     go : (s : Option ℕ) → find_slot (thing.Directory root) t ≡ s → unwrap_or s 0 ≡ i
     go (Some k) z = fit.sound.unique k i (thing.Directory root) (find_some (thing.Directory root) t k fit.roomy z).0 yes_i
-    go None z = let u : true ≡ false = sym yes_i ∙ find_none (thing.Directory root) t z i in cc
+    go None z = cc (yes_i, find_none (thing.Directory root) t z i)
 
 -- like accesses hit alike
 hit_same : (F : Format) (a b : Asked) (c : Option Copied) → a.kind ≡ b.kind → a.privilege ≡ b.privilege → hit_by F b c ≡ hit_by F a c
@@ -140,9 +140,8 @@ module _ (F : Format) (a : Asked) (root f : ℕ) (n : Memory) where
 
   -- the directory's slot is another
   pub found_apart : {x : Thing} → Found F a root n f x → (i s : ℕ) (v : View) → v.sh i ≡ Directory root → shadows (v.sh s) x ≡ true → i ≡ s → ⊥
-  found_apart (table g hg p z) i s v e q k =
-      let u = (is_table_at g (v.sh s) q).1 in let c : Directory root ≡ Table g (is_table_at g (v.sh s) q).0 = sym e ∙ ap v.sh k ∙ u in cc
-  found_apart (split g y z) i s v e q k = let c : Directory root ≡ Split g = sym e ∙ ap v.sh k ∙ is_split_at g (v.sh s) q in cc
+  found_apart (table g hg p z) i s v e q k = cc (e, ap v.sh k, (is_table_at g (v.sh s) q).1)
+  found_apart (split g y z) i s v e q k = cc (e, ap v.sh k, is_split_at g (v.sh s) q)
 
   -- and the access hits once its place is written
   pub found_hits : {x : Thing} → Found F a root n f x → (t u : SlotTable) (i s : ℕ) → Bounded n → has_words (n f) ≡ true
@@ -162,7 +161,7 @@ module _ (F : Format) (a : Asked) (root f : ℕ) (n : Memory) where
         where
           go : (k < 4096) ⊎ (4096 ≤ k) → k < number_limit
           go (inl l) = omega arith
-          go (inr l) = let c : true ≡ false = sym e ∙ bounded k l in cc
+          go (inr l) = cc (e, bounded k l)
 
 -- THE ACCESS
 

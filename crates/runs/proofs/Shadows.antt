@@ -99,23 +99,19 @@ new_only x y e = cc
 pub named_by : (r : Answer) (b : Bool) → is_table r ≡ b → thing_named r ≡ cond b (thing.Table r.value) (thing.Split r.value)
 named_by r b e = rw e
 
+-- by what its slot shadows
+named_as : (r : Answer) (P : Bool → Type 0) (x : Shadow) → (shadows x (thing.Table r.value) ≡ true → P true) → (shadows x (thing.Split r.value) ≡ true → P false) → shadows x (thing_named r) ≡ true → P (is_table r)
+named_as r P x t s = elim (is_table r) as (λ b. shadows x (cond b (thing.Table r.value) (thing.Split r.value)) ≡ true → P b) [ true ↦ t | false ↦ s ]
+
 -- where its slot shadows a table, a split or a directory
 pub named_table : (r : Answer) (f : ℕ) (y : SyncState) → shadows (Table f y) (thing_named r) ≡ true → (is_table r ≡ true) × (r.value ≡ f)
-named_table r f y e = go (is_table r) refl
-  where
-    go : (b : Bool) → is_table r ≡ b → (is_table r ≡ true) × (r.value ≡ f)
-    go true q = (q, sym (eqb-true f r.value (ap (shadows (Table f y)) (sym (named_by r true q)) ∙ e)))
-    go false q = absurd (cc (ap (shadows (Table f y)) (sym (named_by r false q)) ∙ e))
+named_table r f y = named_as r (λ b. (b ≡ true) × (r.value ≡ f)) (Table f y) (λ e. (refl, sym (eqb-true f r.value e))) (λ e. absurd cc)
 
 pub named_split : (r : Answer) (f : ℕ) → shadows (Split f) (thing_named r) ≡ true → (is_table r ≡ false) × (r.value ≡ f)
-named_split r f e = go (is_table r) refl
-  where
-    go : (b : Bool) → is_table r ≡ b → (is_table r ≡ false) × (r.value ≡ f)
-    go true q = absurd (cc (ap (shadows (Split f)) (sym (named_by r true q)) ∙ e))
-    go false q = (q, sym (eqb-true f r.value (ap (shadows (Split f)) (sym (named_by r false q)) ∙ e)))
+named_split r f = named_as r (λ b. (b ≡ false) × (r.value ≡ f)) (Split f) (λ e. absurd cc) (λ e. (refl, sym (eqb-true f r.value e)))
 
 pub named_no_directory : (r : Answer) (f : ℕ) → shadows (Directory f) (thing_named r) ≡ true → ⊥
-named_no_directory r f = elim (is_table r) as (λ b. shadows (Directory f) (cond b (thing.Table r.value) (thing.Split r.value)) ≡ true → ⊥) [ true ↦ λ e. cc | false ↦ λ e. cc ]
+named_no_directory r f = named_as r (λ b. ⊥) (Directory f) (λ e. cc) (λ e. cc)
 
 -- THE STATE OF A TABLE
 

@@ -231,7 +231,7 @@ module _ (F : Format) (m : Memory) (v : View) (sound : Sound F m v) where
         -- an unsynchronised table was one, or is the table of g
         table_of : (i f : ℕ) → cond (eqb i k) (with_sync Unsynchronised (v.sh i)) (v.sh i) ≡ Table f Unsynchronised → (v.sh i ≡ Table f Unsynchronised) ⊎ (f ≡ g)
         table_of i f = by_eq i k (λ b. cond b (with_sync Unsynchronised (v.sh i)) (v.sh i) ≡ Table f Unsynchronised → (v.sh i ≡ Table f Unsynchronised) ⊎ (f ≡ g))
-            (λ q e. inr (let z : Table g Unsynchronised ≡ Table f Unsynchronised = sym (ap (λ n. with_sync Unsynchronised (v.sh n)) q ∙ ap (with_sync Unsynchronised) at) ∙ e in cc)) (λ q e. inl e)
+            (λ q e. inr (cc (ap (λ n. with_sync Unsynchronised (v.sh n)) q ∙ ap (with_sync Unsynchronised) at, e))) (λ q e. inl e)
 
         not_both : (n f : ℕ) → {i : ℕ} → (v.sh i ≡ Table f Unsynchronised) ⊎ (f ≡ g) → v.sh n ≡ Directory f → ⊥
         not_both n f (inl e) d = sound.apart _ n f e d

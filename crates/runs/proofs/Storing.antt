@@ -237,8 +237,7 @@ module _ (F : Format) (m : Memory) (root : ℕ) (t : SlotTable) (q : List ℕ) (
       found_table e None z =
           let k = protected_yes f (put_place s j p t) e in
           let at = protected_table f (shadow_at k.0 (put_place s j p t)) k.1 in
-          let u : true ≡ false = sym (ap (is_table_of f) at ∙ table_here f Protected) ∙ find_none (thing.Table f) (put_place s j p t) z k.0 in
-          cc
+          absurd (cc (ap (is_table_of f) at ∙ table_here f Protected, find_none (thing.Table f) (put_place s j p t) z k.0))
       found_table e (Some n) z =
           let k = protected_yes f (put_place s j p t) e in
           let at = sym (put_shadow k.0) ∙ protected_table f (shadow_at k.0 (put_place s j p t)) k.1 in

@@ -18,7 +18,7 @@ use Rattle.runs.proofs.Fewer.{Fewer, fewer_evict, fewer_fill, fewer_guard, fewer
 use Rattle.runs.proofs.Good.{Fit, refit}
 use Rattle.runs.proofs.Places.{empty_none, empty_some, find_none, find_some, permitted_if, permitted_says, roomy_evict, roomy_fill, roomy_guard, view_evict, view_fill, view_guard}
 use Rattle.runs.proofs.Resyncs.{Turned, resynced, turned_directory, turned_same}
-use Rattle.runs.proofs.Shadows.{directory_here, is_directory_at, is_nothing_at, new_calm, new_directory, new_shadows, nothing_shadows, table_here}
+use Rattle.runs.proofs.Shadows.{calm_no_table, directory_here, is_directory_at, is_nothing_at, new_calm, new_directory, new_shadows, nothing_shadows, table_here}
 use Rattle.runs.proofs.Sound.{Sound}
 use Rattle.runs.proofs.Sounds.{sound_evict, sound_fill_directory, sound_fill_split, sound_fill_table}
 use Rattle.runs.proofs.Views.{Roomy, v_evict, v_fill, v_guard, view}
@@ -98,8 +98,7 @@ module _ (F : Format) (R : Rule) (kept_order : OrdersKept R) (m : Memory) where
           (λ p.
           let here : shadow_at i t ≡ Directory root = sym (ap (λ (n : ℕ). shadow_at n t) p) ∙ w in
           let u : is_root (shadow_at i t) kept ≡ true = ap (is_root (shadow_at i t)) z ∙ ap (is_directory_of root) here ∙ directory_here root in
-          let c : true ≡ false = sym u ∙ not-true (is_root (shadow_at i t) kept) parts.2 in
-          cc)
+          cc (u, not-true (is_root (shadow_at i t) kept) parts.2))
           (λ n. w)
 
   -- where all slots are filled, one may be taken
@@ -150,7 +149,7 @@ module _ (F : Format) (R : Rule) (kept_order : OrdersKept R) (m : Memory) where
       go None e = record {
         fit = fit;
         turned = turned_same;
-        lag = λ k z. let u : true ≡ false = sym (ap (is_table_of f) z ∙ table_here f Unsynchronised) ∙ find_none (thing.Table f) t e k in cc;
+        lag = λ k z. cc (ap (is_table_of f) z ∙ table_here f Unsynchronised, find_none (thing.Table f) t e k);
       }
       go (Some i) e =
           let a = resynced F m t q i fit in
@@ -160,8 +159,7 @@ module _ (F : Format) (R : Rule) (kept_order : OrdersKept R) (m : Memory) where
             lag = λ k z.
                 let yes_k : is_table_of f (shadow_at k (resync m i t)) ≡ true = ap (is_table_of f) z ∙ table_here f Unsynchronised in
                 let same : k ≡ i = fit.sound.unique k i (thing.Table f) (sym (a.turned.things k (thing.Table f)) ∙ yes_k) (find_some (thing.Table f) t i fit.roomy e).0 in
-                let u : true ≡ false = sym (ap lags z) ∙ ap (λ (j : ℕ). lags (shadow_at j (resync m i t))) same ∙ a.calm in
-                cc;
+                calm_no_table a.calm (ap (λ (j : ℕ). shadow_at j (resync m i t)) (sym same) ∙ z);
           }
 
   -- a filled slot, and the others

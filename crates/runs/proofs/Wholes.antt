@@ -137,7 +137,7 @@ module _ (F : Format) (R : Rule) where
   tallies_add_up o h s (goes {h = h'} {s = s'} run c open_now) k e = go s'.run refl (λ r q. tallies_add_up o h' s' run r q)
     where
       go : (x : Option Running) → s'.run ≡ x → ((r : Running) → s'.run ≡ Some r → AddsUp r.hart.tallies) → AddsUp k.hart.tallies
-      go None q sums = let u : false ≡ true = sym (ap is_some q) ∙ open_now in cc
+      go None q sums = cc
       go (Some r) q sums = adds_on s' r k (ending F R s' r c) q (sym (ap (λ y. (step_in R F s' c y).next.run) q) ∙ e) (sums r q)
 
 -- WHOLE RUNS
