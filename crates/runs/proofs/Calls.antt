@@ -4,7 +4,7 @@ use Rattle.std.proofs.lemmas.Bool.{cases_eq, cond_both, eq-eqb, eqb-true, ne_eqb
 use Rattle.memory.specs.Memory.{Memory, has_words}
 use Rattle.paging.specs.Formats.{Format, LawsOfMarking}
 use Rattle.paging.specs.Terms.{directory_level, store}
-use Rattle.policies.specs.Orders.{OrdersKept, Rule}
+use Rattle.policies.specs.Orders.{OrdersKept, Rule, numbered}
 use Rattle.walk.specs.Marking.{put_all}
 use Rattle.walk.specs.Walk.{Asked, Failure, Outcome, directory_index, faulted, reached, table_index, walk_from, word_index}
 use Rattle.shadow.specs.Slots.{place_at, put_place, shadow_at}
@@ -179,10 +179,10 @@ module _ (F : Format) (laws : LawsOfMarking F) (R : Rule) (kept_order : OrdersKe
     -- FLUSHES
 
     all_turned : Turned r.table (resync_all m r.table)
-    all_turned = (each F m (0 ∷ 1 ∷ 2 ∷ 3 ∷ 4 ∷ 5 ∷ 6 ∷ 7 ∷ []) r.table r.order good.fit).turned
+    all_turned = (each F m (numbered 8) r.table r.order good.fit).turned
 
     all_fit : Fit F m (resync_all m r.table) r.order
-    all_fit = (each F m (0 ∷ 1 ∷ 2 ∷ 3 ∷ 4 ∷ 5 ∷ 6 ∷ 7 ∷ []) r.table r.order good.fit).fit
+    all_fit = (each F m (numbered 8) r.table r.order good.fit).fit
 
     flush_good : Good F o (flushed_all ∷ h) (record { table = resync_all m r.table; order = r.order; hart = count_in flush 0 r.hart })
     flush_good = record {

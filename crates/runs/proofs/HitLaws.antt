@@ -75,9 +75,15 @@ module _ (F : Format) (laws : LawsOfMarking F) (o : Opening) (h : History) (r : 
   leaf_up : (s x f g : ℕ) (b : Bool) → place_at s J r.table ≡ Leaf x f b → shadow_at s r.table ≡ Table g Protected → Up F x (word_at m g J)
   leaf_up s x f g b q i = leaf_now F m (view r.table) good.fit.sound s J g x f b i q
 
+  -- P, where the access hits by a leaf of an unsynchronised table
+  abbrev Lagging : ℕ → Type 0 → Type 0
+  Lagging f P =
+      (w s x g : ℕ) (b : Bool) → place_at I D r.table ≡ Link w s → place_at s J r.table ≡ Leaf x f b → shadow_at s r.table ≡ Table g Unsynchronised
+      → HitsSmall F a.kind a.privilege w x b → P
+
   -- the walk goes so now, or the access hits by a leaf of an unsynchronised table
   by_state : (f : ℕ) (P : Type 0) → Hit F a r.table I f → (guest_walk F a R m ≡ to f [] → P)
-      → ((w s x g : ℕ) (b : Bool) → place_at I D r.table ≡ Link w s → place_at s J r.table ≡ Leaf x f b → shadow_at s r.table ≡ Table g Unsynchronised → HitsSmall F a.kind a.privilege w x b → P) → P
+      → Lagging f P → P
   by_state _ P (by_piece {w} {s} {g} {b} p y q z) now lagging = now (piece_walk w s g b p y q z)
   by_state _ P (by_leaf {w} {s} {x} {f} {b} p q z) now lagging = go e.state e.is
     where
@@ -96,7 +102,7 @@ module _ (F : Format) (laws : LawsOfMarking F) (o : Opening) (h : History) (r : 
   undisturbed : (f : ℕ) → Hit F a r.table I f → Unstored (words_read F a R m) (page_of a.address) h → guest_walk F a R m ≡ to f []
   undisturbed f hit u = by_state f _ hit (λ e. e) lagging
     where
-      lagging : (w s x g : ℕ) (b : Bool) → place_at I D r.table ≡ Link w s → place_at s J r.table ≡ Leaf x f b → shadow_at s r.table ≡ Table g Unsynchronised → HitsSmall F a.kind a.privilege w x b → guest_walk F a R m ≡ to f []
+      lagging : Lagging f (guest_walk F a R m ≡ to f [])
       lagging w s x g b p q i z =
           let l = good.fit.sound.links I D w s p in
           let k = named_table (F.reads directory_level w) g Unsynchronised (subst (λ x. shadows x (named F w) ≡ true) i l.names) in

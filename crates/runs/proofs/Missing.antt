@@ -29,7 +29,7 @@ use Rattle.runs.proofs.Good.{Fit, Good, Past, Then, refit}
 use Rattle.runs.proofs.Hitting.{large_hits, leaf_hit, own_flag, piece_hit, small_hits}
 use Rattle.runs.proofs.Linking.{LinkedUp, linked_up}
 use Rattle.runs.proofs.Memories.{last_put_is}
-use Rattle.runs.proofs.Places.{directory_yes, find_none, find_some}
+use Rattle.runs.proofs.Places.{find_none, find_some, slot_some}
 use Rattle.runs.proofs.Shadows.{directory_here, is_directory_at, is_split_at, is_table_at, named_by}
 use Rattle.runs.proofs.Sound.{Leads, Pages, Raises, Up, named}
 use Rattle.runs.proofs.Sounds.{sound_raise}
@@ -82,11 +82,8 @@ module _ (F : Format) (laws : LawsOfMarking F) (a : Asked) (m : Memory) (root : 
   abbrev with_due : List Seen → Memory
   with_due es = put_all m (due F a.kind m es)
 
-  pub due_raises : (f : ℕ) (es : List Seen) → Arrived F a m root f es → Raises F m (with_due es)
-  due_raises f es way = raises_due way
-
   first_up : (f : ℕ) (es : List Seen) → Arrived F a m root f es → Up F (upper a m root) (upper a (with_due es) root)
-  first_up f es way = (due_raises f es way).up root (directory_index a.address) (directory_index_small a.address)
+  first_up f es way = (raises_due way).up root (directory_index a.address) (directory_index_small a.address)
 
   walked_has : {f : ℕ} {es : List Seen} → Arrived F a m root f es → has_words (m f) ≡ true
   walked_has (large hr l t ok hf) = hf
@@ -97,7 +94,7 @@ module _ (F : Format) (laws : LawsOfMarking F) (a : Asked) (m : Memory) (root : 
   walked_leads (small hr l t hg p ok hf) = l
 
   pub arrived_has : (f : ℕ) (es : List Seen) → Arrived F a m root f es → has_words (with_due es f) ≡ true
-  arrived_has f es way = (due_raises f es way).has f ∙ walked_has way
+  arrived_has f es way = (raises_due way).has f ∙ walked_has way
 
   pub arrived_leads : (f : ℕ) (es : List Seen) → Arrived F a m root f es → Leads F (upper a (with_due es) root)
   arrived_leads f es way = up_leads F laws (first_up f es way) (walked_leads way)
@@ -115,12 +112,12 @@ module _ (F : Format) (laws : LawsOfMarking F) (a : Asked) (m : Memory) (root : 
       let way : Arrived F a m root f es = small hr l t hg p ok hf in
       let up = first_up f es way in
       let g = below F a m root in
-      let low = (due_raises f es way).up g (table_index a.address) (table_index_small a.address) in
+      let low = (raises_due way).up g (table_index a.address) (table_index_small a.address) in
       let b = eqb a.kind store in
       let still = settled_small F laws a m root hr g hg in
       subst (Found F a root (with_due es) f)
       (sym (up_named F laws up ∙ named_by (F.reads directory_level (upper a m root)) true t))
-      (table g ((due_raises f es way).has g ∙ hg) (up_pages F laws low p)
+      (table g ((raises_due way).has g ∙ hg) (up_pages F laws low p)
       (small_hits F a.kind a.privilege (upper a (with_due es) root) b (lower a (with_due es) g) (up_allows_two F laws up low a.kind a.privilege ∙ ok) still.0 still.1 (own_flag a.kind)))
 
 -- FROM WHAT WAS FOUND
@@ -199,7 +196,7 @@ module _ (F : Format) (laws : LawsOfMarking F) (R : Rule) (kept_order : OrdersKe
   way = arrived F a m root walked
 
   raise : Raises F m n
-  raise = due_raises F laws a m root f es way
+  raise = raises_due way
 
   begun : Fit F n r.table r.order
   begun = refit good.fit n r.table good.fit.roomy refl (sound_raise F m (view r.table) good.fit.sound n raise)
@@ -281,7 +278,7 @@ module _ (F : Format) (laws : LawsOfMarking F) (R : Rule) (kept_order : OrdersKe
       go : (b : Bool) → is_directory f (put_place K.slot J p K.table) ≡ b → b ≡ false
       go false e = refl
       go true e =
-          let k = directory_yes f (put_place K.slot J p K.table) e in
+          let k = slot_some (is_directory_of f) (put_place K.slot J p K.table) e in
           let at = is_directory_at f (shadow_at k.0 (put_place K.slot J p K.table)) k.1 in
           absurd (good.were k.0 f (up.dirs k.0 f (sym (put_shadow F n root K.table K.order up.fit K.slot J f up.small (table_index_small a.address) target_has p new k.0) ∙ at)) never)
 

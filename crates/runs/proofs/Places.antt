@@ -213,14 +213,14 @@ module _ (q : Shadow → Bool) (t : SlotTable) where
       go (inl h) = first_none (λ k s. q s.shadow) 0 t.slots e k k (omega arith) h
       go (inr h) = ap (λ (s : Slot). q s.shadow) (get_or_past t.slots k no_slot h) ∙ n
 
-  slot_some : is_some (first_from (λ k s. q s.shadow) 0 t.slots) ≡ true → (i : ℕ) × (q (shadow_at i t) ≡ true)
+  pub slot_some : is_some (first_from (λ k s. q s.shadow) 0 t.slots) ≡ true → (i : ℕ) × (q (shadow_at i t) ≡ true)
   slot_some = go (first_from (λ k s. q s.shadow) 0 t.slots) refl
     where
       go : (o : Option ℕ) → first_from (λ k s. q s.shadow) 0 t.slots ≡ o → is_some o ≡ true → (i : ℕ) × (q (shadow_at i t) ≡ true)
       go None e z = absurd cc
       go (Some i) e z = (i, (slot_found i e).0)
 
-  slot_none : q Nothing ≡ false → is_some (first_from (λ k s. q s.shadow) 0 t.slots) ≡ false → (k : ℕ) → q (shadow_at k t) ≡ false
+  pub slot_none : q Nothing ≡ false → is_some (first_from (λ k s. q s.shadow) 0 t.slots) ≡ false → (k : ℕ) → q (shadow_at k t) ≡ false
   slot_none n = go (first_from (λ k s. q s.shadow) 0 t.slots) refl
     where
       go : (o : Option ℕ) → first_from (λ k s. q s.shadow) 0 t.slots ≡ o → is_some o ≡ false → (k : ℕ) → q (shadow_at k t) ≡ false
@@ -243,18 +243,6 @@ pub empty_none : (t : SlotTable) → Roomy t → t.count ≤ 8 → first_empty t
 empty_none t r small e k h =
     ap (λ b. b && is_nothing (shadow_at k t)) (sym (lt-ltb k t.count h))
     ∙ first_none (λ n s. is_free t.count n s.shadow) 0 t.slots e k k (omega arith) (rw r.slots (omega arith))
-
-pub directory_no : (f : ℕ) (t : SlotTable) → is_directory f t ≡ false → (k : ℕ) → is_directory_of f (shadow_at k t) ≡ false
-directory_no f t = slot_none (is_directory_of f) t refl
-
-pub directory_yes : (f : ℕ) (t : SlotTable) → is_directory f t ≡ true → (i : ℕ) × (is_directory_of f (shadow_at i t) ≡ true)
-directory_yes f t = slot_some (is_directory_of f) t
-
-pub protected_no : (f : ℕ) (t : SlotTable) → is_protected f t ≡ false → (k : ℕ) → protects f (shadow_at k t) ≡ false
-protected_no f t = slot_none (protects f) t refl
-
-pub protected_yes : (f : ℕ) (t : SlotTable) → is_protected f t ≡ true → (i : ℕ) × (protects f (shadow_at i t) ≡ true)
-protected_yes f t = slot_some (protects f) t
 
 -- WORDS OF A FRAME
 

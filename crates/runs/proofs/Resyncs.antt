@@ -3,6 +3,7 @@ use Rattle.std.proofs.Common.{◌≡◌, ℕ, zero, suc, ◌+◌, ◌<◌, ◌�
 use Rattle.std.proofs.lemmas.Bool.{cases_eq, eq-eqb}
 use Rattle.memory.specs.Memory.{Memory}
 use Rattle.paging.specs.Formats.{Format}
+use Rattle.policies.specs.Orders.{numbered, times}
 use Rattle.shadow.specs.Slots.{shadow_at}
 use Rattle.slot.specs.Slot.{is_nothing, lags, shadows}
 use Rattle.slot.specs.declared.slots.Shadow.{Shadow}
@@ -11,10 +12,10 @@ use Rattle.shadow.specs.declared.slots.SlotTable.{SlotTable}
 use Rattle.slot.specs.declared.slots.SyncState.TheVariants.{Protected, Unsynchronised}
 use Rattle.slot.specs.declared.slots.Thing.{Thing}
 use Rattle.slot.specs.declared.slots.Thing.TheVariants as thing
-use Rattle.runs.specs.Unit.{listed, resync, resync_all, resync_each}
+use Rattle.runs.specs.Unit.{resync, resync_all, resync_each}
 use Rattle.runs.proofs.Basics.{by_eq}
 use Rattle.runs.proofs.Fewer.{Fewer, fewer_check, fewer_same, fewer_trans}
-use Rattle.runs.proofs.Good.{Fit, refit}
+use Rattle.runs.proofs.Good.{Fit, refit, rising_holds}
 use Rattle.runs.proofs.Places.{count_resync, resync_checked, resync_kept, roomy_resync, small_slot}
 use Rattle.runs.proofs.Shadows.{alike_shadows, directory_kept}
 use Rattle.runs.proofs.Sound.{Sound}
@@ -109,7 +110,7 @@ module _ (F : Format) (m : Memory) where
       record { fit = b.fit; turned = turned_trans a.turned b.turned }
 
   abbrev eight : List ℕ
-  eight = 0 ∷ 1 ∷ 2 ∷ 3 ∷ 4 ∷ 5 ∷ 6 ∷ 7 ∷ []
+  eight = numbered 8
 
   -- the slot that is checked first, and every later one, is in step at the end
   first_calm : (i : ℕ) (is : List ℕ) (t : SlotTable) (q : List ℕ) → Fit F m t q → lags (shadow_at i (resync_each m (i ∷ is) t)) ≡ false
@@ -117,26 +118,16 @@ module _ (F : Format) (m : Memory) where
       let a = resynced t q i fit in
       calm_kept (each is (resync m i t) q a.fit).turned i a.calm
 
-  pub data In (i : ℕ) : List ℕ → Type 0 where
-    here : {is : List ℕ} → In i (i ∷ is)
-    there : {k : ℕ} {is : List ℕ} → In i is → In i (k ∷ is)
-
-  in_calm : (i : ℕ) (is : List ℕ) (t : SlotTable) (q : List ℕ) → Fit F m t q → In i is → lags (shadow_at i (resync_each m is t)) ≡ false
-  in_calm i [] t q fit p = elim p [ ]
-  in_calm i (k ∷ is) t q fit here = first_calm i is t q fit
-  in_calm i (k ∷ is) t q fit (there p) = in_calm i is (resync m k t) q (resynced t q k fit).fit p
-
-  in_rising : (a n k : ℕ) → a ≤ k → k < a + n → In k (listed (λ i. i) a n)
-  in_rising a zero k l u = absurd (omega arith)
-  in_rising a (suc n) k l u = ⊎_elim (λ e. subst (λ i. In i (listed (λ j. j) a (suc n))) e here) (λ d. there (in_rising (suc a) n k (omega arith) (omega arith))) (cases_eq a k)
-
-  in_eight : (k : ℕ) → k < 8 → In k eight
-  in_eight k l = in_rising 0 8 k (omega arith) l
+  in_calm : (i : ℕ) (is : List ℕ) (t : SlotTable) (q : List ℕ) → Fit F m t q → 0 < times i is → lags (shadow_at i (resync_each m is t)) ≡ false
+  in_calm i [] t q fit p = absurd (omega arith)
+  in_calm i (k ∷ is) t q fit p = by_eq k i (λ b. 0 < cond b 1 0 + times i is → lags (shadow_at i (resync_each m (k ∷ is) t)) ≡ false)
+      (λ e l. subst (λ (n : ℕ). lags (shadow_at n (resync_each m (k ∷ is) t)) ≡ false) e (first_calm k is t q fit))
+      (λ n l. in_calm i is (resync m k t) q (resynced t q k fit).fit (omega arith)) p
 
   -- after a check of all, every table is in step
   pub all_calm : (t : SlotTable) (q : List ℕ) → Fit F m t q → (k : ℕ) → lags (shadow_at k (resync_all m t)) ≡ false
   all_calm t q fit k = go (shadow_at k (resync_all m t)) refl
     where
       go : (x : Shadow) → shadow_at k (resync_all m t) ≡ x → lags (shadow_at k (resync_all m t)) ≡ false
-      go (Table f y) e = in_calm k eight t q fit (in_eight k (small_slot (resync_all m t) k (each eight t q fit).fit.roomy (ap is_nothing e)))
+      go (Table f y) e = in_calm k eight t q fit (rising_holds 0 8 k (omega arith) (small_slot (resync_all m t) k (each eight t q fit).fit.roomy (ap is_nothing e)))
       go x e = ap lags e

@@ -17,22 +17,13 @@ use Rattle.runs.specs.Terms.{Call, access, close_run, deliver, done, flush_all, 
 use Rattle.runs.specs.Unit.{Ended, Running, State, Taken, no_tallies, opened_at, refuse, step, step_in, take_slot}
 use Rattle.runs.proofs.Counting.{tallied_none}
 use Rattle.runs.proofs.Calls.{call_fine}
-use Rattle.runs.proofs.Good.{Fit, Good}
+use Rattle.runs.proofs.Good.{Fit, Good, rising_holds}
 use Rattle.runs.proofs.Missing.{root_slot_is}
 use Rattle.runs.proofs.Places.{fresh_place, fresh_shadow, roomy_fresh}
 use Rattle.runs.proofs.Shadows.{is_directory_at, nothing_shadows}
 use Rattle.runs.proofs.Sound.{Backed, Sound, opens}
 use Rattle.runs.proofs.Taking.{Got, free_any, took}
 use Rattle.runs.proofs.Views.{view}
-
--- each number of a rising order stands in it
-rising_holds : (a k i : ℕ) → a ≤ i → i < a + k → 0 < times i (rising a k)
-rising_holds a zero i l u = absurd (omega arith)
-rising_holds a (suc k) i l u =
-    ⊎_elim
-    (λ e. rw (eq-eqb a i e) (omega arith))
-    (λ n. rw (ne_eqb a i n) (let v = rising_holds (suc a) k i (let w : a ≤ i = l in omega arith) (omega arith) in omega arith))
-    (cases_eq a i)
 
 abbrev made : Memory → Option Running → State
 made m r = record { memory = m; run = r }

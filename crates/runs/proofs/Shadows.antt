@@ -60,6 +60,11 @@ nothing_shadows (thing.Directory f) = refl
 nothing_shadows (thing.Table f) = refl
 nothing_shadows (thing.Split f) = refl
 
+-- what a slot shadows that was perhaps emptied, it shadowed
+pub emptied_shadows : (b : Bool) (x : Shadow) (t : Thing) → shadows (cond b Nothing x) t ≡ true → shadows x t ≡ true
+emptied_shadows true x t e = cc (nothing_shadows t)
+emptied_shadows false x t e = e
+
 -- what shadows a thing is not nothing
 pub filled : (x : Shadow) (t : Thing) → shadows x t ≡ true → is_nothing x ≡ false
 filled Nothing t e = cc (nothing_shadows t)

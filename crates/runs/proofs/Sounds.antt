@@ -17,7 +17,7 @@ use Rattle.runs.specs.Laws.{word_at}
 use Rattle.runs.proofs.Basics.{by_eq, by_eq₂, cond_other, elim_eq}
 use Rattle.runs.proofs.Losses.{Less, checked_less, guard_at_less, kept, less_cond, less_empty, less_leaf, less_link, less_opens, less_piece, unlink_less}
 use Rattle.runs.proofs.Memories.{has_stored, up_trans, word_stored_other}
-use Rattle.runs.proofs.Shadows.{Alike, alike_directory, alike_shadows, alike_split, alike_sym, alike_table, as_is, new_only, new_protected, nothing_shadows, state, sync_alike, table_here}
+use Rattle.runs.proofs.Shadows.{Alike, alike_directory, alike_shadows, alike_split, alike_sym, alike_table, as_is, emptied_shadows, new_only, new_protected, nothing_shadows, state, sync_alike, table_here}
 use Rattle.runs.proofs.Sound.{Backed, Leads, Leafed, Linked, Pages, Pieced, Raises, Sound, Up, guards, named, opens, same}
 use Rattle.runs.proofs.Views.{View, guard_at, unlink_at, v_check, v_checked, v_drop, v_evict, v_fill, v_flag_off, v_guard, v_put, v_sync}
 
@@ -154,16 +154,10 @@ module _ (F : Format) (m : Memory) (v : View) (sound : Sound F m v) where
       go (inl h) = h
       go (inr h) = absurd (stands (sound.within i j h))
 
-  link_inside : (i j w s : ℕ) → v.pl i j ≡ Link w s → j < 1024
-  link_inside i j w s e = inside i j (λ z. cc)
-
-  leaf_inside : (i j w a : ℕ) (b : Bool) → v.pl i j ≡ Leaf w a b → j < 1024
-  leaf_inside i j w a b e = inside i j (λ z. cc)
-
   pub sound_raise : (n : Memory) → Raises F m n → Sound F n v
   sound_raise n ra = flagged (framed_alike F m n v v (framed sound) ra.has (λ k. as_is) (λ i j. kept)
-      (λ i j r w s e d p. up_trans p (ra.up r j (link_inside i j w s e)))
-      (λ i j f w a b e d p. up_trans (p d) (ra.up f j (leaf_inside i j w a b e)))
+      (λ i j r w s e d p. up_trans p (ra.up r j (inside i j (λ z. cc))))
+      (λ i j f w a b e d p. up_trans (p d) (ra.up f j (inside i j (λ z. cc))))
       sound.apart) sound.shut
 
   moved : (g i w r j x : ℕ) → i < 1024 → j < 1024 → ((r ≡ g) × (j ≡ i) → ⊥) → Up F x (word_at m r j) → Up F x (word_at (stored m g i w) r j)
@@ -171,8 +165,8 @@ module _ (F : Format) (m : Memory) (v : View) (sound : Sound F m v) where
 
   pub sound_store : (g i w : ℕ) → i < 1024 → ((k : ℕ) → guards g (v.sh k) ≡ false) → Sound F (stored m g i w) v
   sound_store g i w h free = flagged (framed_alike F m _ v v (framed sound) (has_stored m g i w) (λ k. as_is) (λ a j. kept)
-      (λ a j r x s e d p. moved g i w r j x h (link_inside a j x s e) (λ z. cc (free a, eq-eqb r g z.0)) p)
-      (λ a j f x b c e d p. moved g i w f j x h (leaf_inside a j x b c e) (λ z. cc (free a, eq-eqb f g z.0)) (p d))
+      (λ a j r x s e d p. moved g i w r j x h (inside a j (λ z. cc)) (λ z. cc (free a, eq-eqb r g z.0)) p)
+      (λ a j f x b c e d p. moved g i w f j x h (inside a j (λ z. cc)) (λ z. cc (free a, eq-eqb f g z.0)) (p d))
       sound.apart) sound.shut
 
   drop_less : (g i k l : ℕ) → Less ((v_drop g i v).pl k l) (v.pl k l)
@@ -187,8 +181,8 @@ module _ (F : Format) (m : Memory) (v : View) (sound : Sound F m v) where
   pub sound_directory_store : (g i w : ℕ) → i < 1024 → Sound F (stored m g i w) (v_drop g i v)
   unfolding v_drop
   sound_directory_store g i w h = flagged (framed_alike F m _ v (v_drop g i v) (framed sound) (has_stored m g i w) (λ k. as_is) (drop_less g i)
-      (λ a j r x s e d p. moved g i w r j x h (link_inside a j x s (less_link (drop_less g i a j) x s e)) (drop_other g i a j r (ap (copies g) d) (λ z. cc)) p)
-      (λ a j f x b c e d p. let l = less_leaf (drop_less g i a j) x b c e in moved g i w f j x h (leaf_inside a j x b l.0 l.1) (drop_other g i a j f (ap (copies g) d) (λ z. cc)) (p d))
+      (λ a j r x s e d p. moved g i w r j x h (inside a j (λ z. cc (less_link (drop_less g i a j) x s e))) (drop_other g i a j r (ap (copies g) d) (λ z. cc)) p)
+      (λ a j f x b c e d p. let l = less_leaf (drop_less g i a j) x b c e in moved g i w f j x h (inside a j (λ z. cc (l.1))) (drop_other g i a j f (ap (copies g) d) (λ z. cc)) (p d))
       sound.apart) (λ a j f k e. sound.shut a j f k (less_opens (drop_less g i a j) j (v.sh a) f e))
 
   -- UNSYNCHRONISED TABLES
@@ -398,7 +392,7 @@ module _ (F : Format) (m : Memory) (v : View) (sound : Sound F m v) where
       (λ k j. less_cond (eqb k i) (unlink_less i (v.sh k) (v.pl k j)))
       (λ k j stands q. stands (ap (λ b. cond b Empty (unlink_at i (v.sh k) (v.pl k j))) (eq-eqb k i q)))
       unlinks
-      (λ a b x p q. sound.unique a b x (was a x p) (was b x q))
+      (λ a b x p q. sound.unique a b x (emptied_shadows (eqb a i) (v.sh a) x p) (emptied_shadows (eqb b i) (v.sh b) x q))
       (λ k. elim (eqb k i) as (λ b. Backed m (cond b Nothing (v.sh k))) [ true ↦ tt | false ↦ sound.backed k ])
       (λ a k f e d. sound.apart a k f (table a f e) (directory k f d)))
       (λ k j g l e. opens_anew i Nothing (λ a b. unlink_at i (v.sh a) (v.pl a b)) (λ a b. unlink_less i (v.sh a) (v.pl a b)) k j g l e refl)
@@ -406,9 +400,6 @@ module _ (F : Format) (m : Memory) (v : View) (sound : Sound F m v) where
       unlinks : (k d w s : ℕ) → cond (eqb k i) Empty (unlink_at i (v.sh k) (v.pl k d)) ≡ Link w s → Linked F m v k d w s → s ≡ i → ⊥
       unlinks k d w s e x = elim (eqb k i) as (λ b. cond b Empty (unlink_at i (v.sh k) (v.pl k d)) ≡ Link w s → s ≡ i → ⊥)
           [ true ↦ (λ z q. cc) | false ↦ (λ z q. unlinked i w s (v.pl k d) (sym (ap (λ y. unlink_at i y (v.pl k d)) x.is) ∙ z) q) ] e
-
-      was : (k : ℕ) (x : Thing) → shadows (cond (eqb k i) Nothing (v.sh k)) x ≡ true → shadows (v.sh k) x ≡ true
-      was k x = elim (eqb k i) as (λ b. shadows (cond b Nothing (v.sh k)) x ≡ true → shadows (v.sh k) x ≡ true) [ true ↦ (λ e. cc (nothing_shadows x)) | false ↦ (λ e. e) ]
 
       table : (k f : ℕ) → cond (eqb k i) Nothing (v.sh k) ≡ Table f Unsynchronised → v.sh k ≡ Table f Unsynchronised
       table k f = cond_other (eqb k i) (λ e. cc)

@@ -18,7 +18,7 @@ use Rattle.runs.proofs.Basics.{by_eq}
 use Rattle.runs.proofs.Fewer.{fewer_drop}
 use Rattle.runs.proofs.Good.{Fit, refit}
 use Rattle.runs.proofs.Linking.{Olds, Trip, olds_fewer, put_either, put_here, put_other, put_sh}
-use Rattle.runs.proofs.Places.{directory_no, find_none, find_some, protected_no, protected_yes, roomy_drop, roomy_flag_off, roomy_put, roomy_sync, view_drop, view_flag_off, view_put, view_sync}
+use Rattle.runs.proofs.Places.{find_none, find_some, roomy_drop, roomy_flag_off, roomy_put, roomy_sync, slot_none, slot_some, view_drop, view_flag_off, view_put, view_sync}
 use Rattle.runs.proofs.Shadows.{Alike, alike_directory, alike_split, alike_sym, alike_table, protected_table, sync_alike, table_here, unguarded}
 use Rattle.runs.proofs.Sound.{Pages, Sound, Up, guards, same}
 use Rattle.runs.proofs.Sounds.{flag_off_put, leaf_now, link_now, sound_directory_store, sound_leaf, sound_piece, sound_store, sound_unsync, sync_put, unguarded_by_sync}
@@ -235,11 +235,11 @@ module _ (F : Format) (m : Memory) (root : ℕ) (t : SlotTable) (q : List ℕ) (
       found_table : is_protected f (put_place s j p t) ≡ true → (x : Option ℕ) → find_slot (thing.Table f) (put_place s j p t) ≡ x
           → Kept F m root t q s j p (stored m f i w) (unsync_found (put_place s j p t) x) trace × Stands t s j p (unsync_found (put_place s j p t) x)
       found_table e None z =
-          let k = protected_yes f (put_place s j p t) e in
+          let k = slot_some (protects f) (put_place s j p t) e in
           let at = protected_table f (shadow_at k.0 (put_place s j p t)) k.1 in
           absurd (cc (ap (is_table_of f) at ∙ table_here f Protected, find_none (thing.Table f) (put_place s j p t) z k.0))
       found_table e (Some n) z =
-          let k = protected_yes f (put_place s j p t) e in
+          let k = slot_some (protects f) (put_place s j p t) e in
           let at = sym (put_shadow k.0) ∙ protected_table f (shadow_at k.0 (put_place s j p t)) k.1 in
           let yes_n : is_table_of f (shadow_at n t) ≡ true = ap (is_table_of f) (sym (put_shadow n)) ∙ (find_some (thing.Table f) (put_place s j p t) n (roomy_put s j p t ok.roomy) z).0 in
           let same_slot : k.0 ≡ n = ok.sound.unique k.0 n (thing.Table f) (ap (is_table_of f) at ∙ table_here f Protected) yes_n in
@@ -267,7 +267,7 @@ module _ (F : Format) (m : Memory) (root : ℕ) (t : SlotTable) (q : List ℕ) (
     kept_store = go (is_directory f (put_place s j p t)) (is_protected f (put_place s j p t)) refl refl
       where
         none : is_directory f (put_place s j p t) ≡ false → (n : ℕ) → is_directory_of f (shadow_at n t) ≡ false
-        none e n = ap (is_directory_of f) (sym (put_shadow n)) ∙ directory_no f (put_place s j p t) e n
+        none e n = ap (is_directory_of f) (sym (put_shadow n)) ∙ slot_none (is_directory_of f) (put_place s j p t) refl e n
 
         go : (b c : Bool) → is_directory f (put_place s j p t) ≡ b → is_protected f (put_place s j p t) ≡ c → StoreKept b (by_tests b c)
         go true c e z = (kept_directory, λ u. cc)
@@ -275,4 +275,4 @@ module _ (F : Format) (m : Memory) (root : ℕ) (t : SlotTable) (q : List ℕ) (
             let k = found_table (none e) z (find_slot (thing.Table f) (put_place s j p t)) refl in
             (k.0, λ u. k.1)
         go false false e z =
-            (kept_other (none e) (λ n. ap (protects f) (sym (put_shadow n)) ∙ protected_no f (put_place s j p t) z n), λ u. stands_put)
+            (kept_other (none e) (λ n. ap (protects f) (sym (put_shadow n)) ∙ slot_none (protects f) (put_place s j p t) refl z n), λ u. stands_put)

@@ -18,7 +18,7 @@ use Rattle.runs.proofs.Fewer.{Fewer, fewer_evict, fewer_fill, fewer_guard, fewer
 use Rattle.runs.proofs.Good.{Fit, refit}
 use Rattle.runs.proofs.Places.{empty_none, empty_some, find_none, find_some, permitted_if, permitted_says, roomy_evict, roomy_fill, roomy_guard, view_evict, view_fill, view_guard}
 use Rattle.runs.proofs.Resyncs.{Turned, resynced, turned_directory, turned_same}
-use Rattle.runs.proofs.Shadows.{calm_no_table, directory_here, is_directory_at, is_nothing_at, new_calm, new_directory, new_shadows, nothing_shadows, table_here}
+use Rattle.runs.proofs.Shadows.{calm_no_table, directory_here, emptied_shadows, is_directory_at, is_nothing_at, new_calm, new_directory, new_shadows, nothing_shadows, table_here}
 use Rattle.runs.proofs.Sound.{Sound}
 use Rattle.runs.proofs.Sounds.{sound_evict, sound_fill_directory, sound_fill_split, sound_fill_table}
 use Rattle.runs.proofs.Views.{Roomy, v_evict, v_fill, v_guard, view}
@@ -79,7 +79,7 @@ module _ (F : Format) (R : Rule) (kept_order : OrdersKept R) (m : Memory) where
     small = let l : i < t.count = ltb-true i t.count parts.0 in let u = fit.few in omega arith;
     vacant = evicted_sh i i t ∙ rw (eq-eqb i i refl);
     fewer = subst (Fewer (view t)) (sym (view_evict i t)) (fewer_evict i (view t));
-    were = λ k x z. back k x (subst (λ y. shadows y x ≡ true) (evicted_sh i k t) z);
+    were = λ k x z. emptied_shadows (eqb k i) (shadow_at k t) x (subst (λ y. shadows y x ≡ true) (evicted_sh i k t) z);
     keeps = λ root k z w. evicted_sh i k t ∙ stays root k z w;
   }
     where
@@ -88,10 +88,6 @@ module _ (F : Format) (R : Rule) (kept_order : OrdersKept R) (m : Memory) where
           let z = and_parts (ltb i t.count && not (is_nothing (shadow_at i t))) (not (is_root (shadow_at i t) kept)) e in
           let y = and_parts (ltb i t.count) (not (is_nothing (shadow_at i t))) z.0 in
           (y.0, y.1, z.1)
-
-      back : (k : ℕ) (x : Thing) → shadows (cond (eqb k i) Nothing (shadow_at k t)) x ≡ true → shadows (shadow_at k t) x ≡ true
-      back k x = by_eq k i (λ b. shadows (cond b Nothing (shadow_at k t)) x ≡ true → shadows (shadow_at k t) x ≡ true)
-          (λ p z. cc (nothing_shadows x)) (λ n z. z)
 
       stays : (root k : ℕ) → kept ≡ Some root → shadow_at k t ≡ Directory root → cond (eqb k i) Nothing (shadow_at k t) ≡ Directory root
       stays root k z w = by_eq k i (λ b. cond b Nothing (shadow_at k t) ≡ Directory root)
