@@ -8,13 +8,12 @@ use Rattle.policies.specs.Orders.{OrdersKept, Rule, numbered}
 use Rattle.walk.specs.Marking.{put_all}
 use Rattle.walk.specs.Walk.{Asked, Failure, Outcome, directory_index, faulted, reached, table_index, walk_from, word_index}
 use Rattle.shadow.specs.Slots.{place_at, put_place, shadow_at}
-use Rattle.slot.specs.Slot.{is_directory_of, lags, shadows}
+use Rattle.slot.specs.Slot.{is_directory_of, shadows}
 use Rattle.slot.specs.declared.slots.Place.{Place}
 use Rattle.slot.specs.declared.slots.Place.TheVariants.{Empty, Link, Leaf, Piece}
 use Rattle.slot.specs.declared.slots.Shadow.TheVariants.{Directory, Table}
 use Rattle.shadow.specs.declared.slots.SlotTable.{SlotTable}
 use Rattle.slot.specs.declared.slots.SyncState.TheVariants.{Unsynchronised}
-use Rattle.slot.specs.declared.slots.Thing.{Thing}
 use Rattle.slot.specs.declared.slots.Thing.TheVariants as thing
 use Rattle.runs.specs.Histories.{Event, History, Opening, Sometime, covers, earlier, exit_of, failed, flushed_all, flushed_page, marks_in, memory_at, mode_at, moded, root_at, settled, store_of, stores_in, switched, went}
 use Rattle.runs.specs.Laws.{after_access, after_call, asked_now, fault, guest_walk, just, LawfulAnswer, LawfulFault, LawfulReply, Recent, Tallied}
@@ -224,7 +223,7 @@ module _ (F : Format) (laws : LawsOfMarking F) (R : Rule) (kept_order : OrdersKe
     }
       where
         l : Linked F m (view r.table) I (directory_index a) w k
-        l = good.fit.sound.links I (directory_index a) w k e
+        l = good.fit.sound.framed.links I (directory_index a) w k e
 
         slot : k < 8
         slot = small_slot r.table k good.fit.roomy (filled (shadow_at k r.table) (named F w) l.names)
@@ -274,7 +273,7 @@ module _ (F : Format) (laws : LawsOfMarking F) (R : Rule) (kept_order : OrdersKe
             → place_at k (table_index b) (drop_page root a r.table) ≡ Leaf y c z → ⊥
         covered i b u k y c z q e l leaf =
             let p = same_page a b q in
-            let own : i ≡ I = d.fit.sound.unique i I (thing.Directory root) (ap (is_directory_of root) e ∙ directory_here root) (ap (is_directory_of root) at ∙ directory_here root) in
+            let own : i ≡ I = d.fit.sound.framed.unique i I (thing.Directory root) (ap (is_directory_of root) e ∙ directory_here root) (ap (is_directory_of root) at ∙ directory_here root) in
             let link : place_at I (directory_index a) (drop_page root a r.table) ≡ Link u k = ap (λ (n : ℕ). place_at I n (drop_page root a r.table)) p.0 ∙ ap (λ (n : ℕ). place_at n (directory_index b) (drop_page root a r.table)) (sym own) ∙ l in
             cc (d.gone u k link, ap (λ (n : ℕ). place_at k n (drop_page root a r.table)) p.1, leaf)
 

@@ -1,8 +1,8 @@
 -- Tallies keep counting what a history holds.
-use Rattle.std.proofs.Common.{◌≡◌, ℕ, ◌+◌, Bool, true, false, cond, ◌&&◌, eqb, [], ◌∷◌, sym, refl, ◌∙◌, ap₂, add-zero}
+use Rattle.std.proofs.Common.{◌≡◌, ℕ, true, false, [], ◌∷◌, refl, add-zero}
 use Rattle.runs.specs.Histories.{Event, History, counts, exit_of}
 use Rattle.runs.specs.Laws.{Tallied}
-use Rattle.runs.specs.Terms.{Tallies, flush, hidden, no_exit, switch, trace, true_exit}
+use Rattle.runs.specs.Terms.{Tallies}
 use Rattle.runs.specs.Unit.{counted, no_tallies}
 
 -- a counted call more

@@ -41,7 +41,7 @@ module _ (F : Format) (laws : LawsOfMarking F) (o : Opening) (h : History) (r : 
   J = table_index a.address
 
   root_has : has_words (m R) ≡ true
-  root_has = subst (Backed m) good.rooted (good.fit.sound.backed I)
+  root_has = subst (Backed m) good.rooted (good.fit.sound.framed.backed I)
 
   moved : (n : Memory) → SameFrames o n → (f : ℕ) → has_words (m f) ≡ true → has_words (n f) ≡ true
   moved n same f e = same f ∙ sym (has_at o h f) ∙ e
@@ -54,9 +54,9 @@ module _ (F : Format) (laws : LawsOfMarking F) (o : Opening) (h : History) (r : 
   piece_walk : (w s g : ℕ) (b : Bool) → place_at I D r.table ≡ Link w s → shadow_at s r.table ≡ Split g → place_at s J r.table ≡ Piece b
       → HitsLarge F a.kind a.privilege w b → guest_walk F a R m ≡ to (g + J) []
   piece_walk w s g b p y q z =
-      let l = good.fit.sound.links I D w s p in
+      let l = good.fit.sound.framed.links I D w s p in
       let n = named_split (F.reads directory_level w) g (subst (λ x. shadows x (named F w) ≡ true) y l.names) in
-      let k = good.fit.sound.pieces s J b q in
+      let k = good.fit.sound.framed.pieces s J b q in
       let e : k.first ≡ g = cc (k.is, y) in
       walk_large F laws a R m root_has (link_up w s p) l.leads n.0 n.1
       (subst (λ (x : ℕ). has_words (m (x + J)) ≡ true) e k.target) z.allows z.upper
@@ -65,11 +65,11 @@ module _ (F : Format) (laws : LawsOfMarking F) (o : Opening) (h : History) (r : 
   leaf_walk : (w s x f g : ℕ) (b : Bool) (y : SyncState) → place_at I D r.table ≡ Link w s → place_at s J r.table ≡ Leaf x f b → shadow_at s r.table ≡ Table g y
       → HitsSmall F a.kind a.privilege w x b → (n : Memory) → SameFrames o n → Up F w (word_at n R D) → Up F x (word_at n g J) → guest_walk F a R n ≡ to f []
   leaf_walk w s x f g b y p q i z n same u v =
-      let l = good.fit.sound.links I D w s p in
+      let l = good.fit.sound.framed.links I D w s p in
       let k = named_table (F.reads directory_level w) g y (subst (λ x. shadows x (named F w) ≡ true) i l.names) in
-      let e = good.fit.sound.leaves s J x f b q in
+      let e = good.fit.sound.framed.leaves s J x f b q in
       walk_small F laws a R n (moved n same R root_has) u l.leads k.0 k.1
-      (moved n same g (subst (Backed m) i (good.fit.sound.backed s))) v e.pages (moved n same f e.target) z.allows z.upper z.lower
+      (moved n same g (subst (Backed m) i (good.fit.sound.framed.backed s))) v e.pages (moved n same f e.target) z.allows z.upper z.lower
 
   -- a protected table's word is the guest's, but for marks
   leaf_up : (s x f g : ℕ) (b : Bool) → place_at s J r.table ≡ Leaf x f b → shadow_at s r.table ≡ Table g Protected → Up F x (word_at m g J)
@@ -88,7 +88,7 @@ module _ (F : Format) (laws : LawsOfMarking F) (o : Opening) (h : History) (r : 
   by_state _ P (by_leaf {w} {s} {x} {f} {b} p q z) now lagging = go e.state e.is
     where
       e : Leafed F m (view r.table) s J x f
-      e = good.fit.sound.leaves s J x f b q
+      e = good.fit.sound.framed.leaves s J x f b q
 
       go : (y : SyncState) → shadow_at s r.table ≡ Table e.frame y → P
       go Protected i = now (leaf_walk w s x f e.frame b Protected p q i z m (has_at o h) (link_up w s p) (leaf_up s x f e.frame b q i))
@@ -104,9 +104,9 @@ module _ (F : Format) (laws : LawsOfMarking F) (o : Opening) (h : History) (r : 
     where
       lagging : Lagging f (guest_walk F a R m ≡ to f [])
       lagging w s x g b p q i z =
-          let l = good.fit.sound.links I D w s p in
+          let l = good.fit.sound.framed.links I D w s p in
           let k = named_table (F.reads directory_level w) g Unsynchronised (subst (λ x. shadows x (named F w) ≡ true) i l.names) in
-          let read = reads_small F laws a R m root_has (link_up w s p) l.leads k.0 k.1 (subst (Backed m) i (good.fit.sound.backed s)) in
+          let read = reads_small F laws a R m root_has (link_up w s p) l.leads k.0 k.1 (subst (Backed m) i (good.fit.sound.framed.backed s)) in
           let free = subst (λ ws. Unstored ws (page_of a.address) h) read u in
           leaf_walk w s x f g b Unsynchronised p q i z m (has_at o h) (link_up w s p)
           (since F o x g J (page_of a.address) h good.raised (table_index_small a.address)
@@ -114,10 +114,10 @@ module _ (F : Format) (laws : LawsOfMarking F) (o : Opening) (h : History) (r : 
 
   target_has : (f : ℕ) → Hit F a r.table I f → has_words (m f) ≡ true
   target_has _ (by_piece {w} {s} {g} {b} p y q z) =
-      let k = good.fit.sound.pieces s J b q in
+      let k = good.fit.sound.framed.pieces s J b q in
       let e : k.first ≡ g = cc (k.is, y) in
       subst (λ (x : ℕ). has_words (m (x + J)) ≡ true) e k.target
-  target_has _ (by_leaf {w} {s} {x} {f} {b} p q z) = (good.fit.sound.leaves s J x f b q).target
+  target_has _ (by_leaf {w} {s} {x} {f} {b} p q z) = (good.fit.sound.framed.leaves s J x f b q).target
 
   pub hit_lawful : (w f : ℕ) → a.privilege ≡ mode_at o h → Hit F a r.table I f → LawfulThrough F o h a (hit_answer a w m f)
   hit_lawful w f p hit = record {

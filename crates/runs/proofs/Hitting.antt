@@ -7,9 +7,9 @@ use Rattle.paging.specs.Terms.{directory_level, store, table_level}
 use Rattle.hits.specs.Hits.{copied_at, copied_below, copied_from, copied_piece, hits, number_limit, passes}
 use Rattle.shadow.specs.Slots.{place_at, shadow_at}
 use Rattle.slot.specs.declared.slots.Place.{Place}
-use Rattle.slot.specs.declared.slots.Place.TheVariants.{Empty, Link, Leaf, Piece}
+use Rattle.slot.specs.declared.slots.Place.TheVariants.{Link, Leaf, Piece}
 use Rattle.slot.specs.declared.slots.Shadow.{Shadow}
-use Rattle.slot.specs.declared.slots.Shadow.TheVariants.{Nothing, Directory, Table, Split}
+use Rattle.slot.specs.declared.slots.Shadow.TheVariants.{Split}
 use Rattle.shadow.specs.declared.slots.SlotTable.{SlotTable}
 use Rattle.walk.specs.Walk.{Asked, directory_index, table_index}
 use Rattle.runs.specs.Unit.{hit_by}

@@ -6,7 +6,7 @@ use Rattle.paging.specs.Formats.{Format}
 use Rattle.paging.specs.Terms.{directory_level}
 use Rattle.policies.specs.Orders.{OrdersKept, Rule}
 use Rattle.shadow.specs.Slots.{place_at, put_place, shadow_at}
-use Rattle.slot.specs.Slot.{is_nothing, lags, shadows}
+use Rattle.slot.specs.Slot.{is_nothing, shadows}
 use Rattle.slot.specs.declared.slots.Place.{Place}
 use Rattle.slot.specs.declared.slots.Place.TheVariants.{Empty, Link, Leaf, Piece}
 use Rattle.slot.specs.declared.slots.Shadow.TheVariants.{Directory, Table}

@@ -13,7 +13,7 @@ use Rattle.shadow.specs.Slots.{find_slot, is_directory, place_at, put_place, sha
 use Rattle.slot.specs.Slot.{is_directory_of, shadows}
 use Rattle.slot.specs.declared.slots.Place.{Place}
 use Rattle.slot.specs.declared.slots.Place.TheVariants.{Link}
-use Rattle.slot.specs.declared.slots.Shadow.TheVariants.{Directory, Table, Split}
+use Rattle.slot.specs.declared.slots.Shadow.TheVariants.{Directory}
 use Rattle.shadow.specs.declared.slots.SlotTable.{SlotTable}
 use Rattle.slot.specs.declared.slots.Thing.{Thing}
 use Rattle.slot.specs.declared.slots.Thing.TheVariants as thing
@@ -51,7 +51,7 @@ root_slot_is F m t q fit root i e = go (find_slot (thing.Directory root) t) refl
     yes_i = ap (is_directory_of root) e ∙ directory_here root
 
     go : (s : Option ℕ) → find_slot (thing.Directory root) t ≡ s → unwrap_or s 0 ≡ i
-    go (Some k) z = fit.sound.unique k i (thing.Directory root) (find_some (thing.Directory root) t k fit.roomy z).0 yes_i
+    go (Some k) z = fit.sound.framed.unique k i (thing.Directory root) (find_some (thing.Directory root) t k fit.roomy z).0 yes_i
     go None z = cc (yes_i, find_none (thing.Directory root) t z i)
 
 -- like accesses hit alike

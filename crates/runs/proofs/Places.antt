@@ -6,8 +6,8 @@ use Rattle.std.proofs.lemmas.List.{get_or-map, get_or_past, get_or-set_other, ge
 use Rattle.std.proofs.lemmas.Bool.{and_from, and_parts, cases_eq, cases_lt, eq-eqb, le-leb, leb-true, lt-ltb, ltb-true, ne_eqb}
 use Rattle.std.proofs.lemmas.Bool.Decides.{nat_tests}
 use Rattle.memory.specs.Memory.{Memory}
-use Rattle.shadow.specs.Slots.{change_all, change_slot, check_as, check_table, drop_entry, evict, fill, find_slot, first_empty, first_from, flag_off_at, fresh, guard, is_directory, is_free, is_protected, may_take, permitted, place_at, put_place, set_sync, shadow_at}
-use Rattle.slot.specs.Slot.{bare, change_place, check_from, check_place, check_slot, copies, drop_in_slot, flag_off, guard_as, guard_leaf, guard_slot, in_split, is_directory_of, is_nothing, lags, no_slot, protects, shadow_of, shadows, sync_slot, unlink_as, unlink_place, unlink_slot, with_sync}
+use Rattle.shadow.specs.Slots.{change_all, change_slot, check_as, check_table, drop_entry, evict, fill, find_slot, first_empty, first_from, flag_off_at, fresh, guard, is_free, may_take, permitted, place_at, put_place, set_sync, shadow_at}
+use Rattle.slot.specs.Slot.{bare, change_place, check_from, check_place, check_slot, copies, drop_in_slot, flag_off, guard_as, guard_leaf, guard_slot, in_split, is_nothing, lags, no_slot, shadow_of, shadows, sync_slot, unlink_as, unlink_place, unlink_slot, with_sync}
 use Rattle.slot.specs.declared.slots.Place.{Place}
 use Rattle.slot.specs.declared.slots.Place.TheVariants.{Empty}
 use Rattle.slot.specs.declared.slots.Shadow.{Shadow}

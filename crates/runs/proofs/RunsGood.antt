@@ -1,20 +1,20 @@
 -- Every run is good, from its opening on, and so every call answers by the laws.
-use Rattle.std.proofs.Common.{◌≡◌, ℕ, zero, suc, ◌+◌, ◌<◌, ◌≤◌, Bool, true, false, cond, ◌||◌, ltb, [], is_some, Some, None, Option, sym, refl, ap, ◌∙◌, subst, ap₂, ⊎_elim, arith}
-use Rattle.std.proofs.lemmas.Bool.{cases_eq, cond_both, eq-eqb, false≢true, ne_eqb}
-use Rattle.memory.specs.Memory.{Memory, has_words, stored}
+use Rattle.std.proofs.Common.{◌≡◌, ℕ, ◌≤◌, true, ◌||◌, ltb, [], is_some, Some, None, Option, sym, refl, ap, ◌∙◌, subst, ap₂, ⊎_elim, arith}
+use Rattle.std.proofs.lemmas.Bool.{cond_both, false≢true}
+use Rattle.memory.specs.Memory.{Memory, has_words}
 use Rattle.paging.specs.Formats.{Format, LawsOfMarking}
 use Rattle.paging.specs.Terms.{supervisor}
-use Rattle.policies.specs.Orders.{OrdersKept, Rule, numbered, rising, times}
+use Rattle.policies.specs.Orders.{OrdersKept, Rule, numbered}
 use Rattle.shadow.specs.Slots.{fresh, shadow_at}
 use Rattle.slot.specs.Slot.{shadows}
-use Rattle.slot.specs.declared.slots.Place.TheVariants.{Empty, Link, Leaf, Piece}
+use Rattle.slot.specs.declared.slots.Place.TheVariants.{Empty, Link}
 use Rattle.slot.specs.declared.slots.Shadow.TheVariants.{Nothing, Directory}
 use Rattle.slot.specs.declared.slots.Thing.TheVariants as thing
 use Rattle.runs.specs.Histories.{History, Opening, memory_at}
 use Rattle.runs.specs.Laws.{DoneBy, LawfulReply, Recent, after_call}
 use Rattle.runs.specs.Runs.{Bounded, CallsLawful, Run, goes, opened}
-use Rattle.runs.specs.Terms.{Call, access, close_run, deliver, done, flush_all, flush_page, give_up, no_exit, open_run, poke, set_mode, switch_root}
-use Rattle.runs.specs.Unit.{Ended, Running, State, Taken, no_tallies, opened_at, refuse, step, step_in, take_slot}
+use Rattle.runs.specs.Terms.{Call, no_exit, open_run, poke}
+use Rattle.runs.specs.Unit.{Running, State, Taken, no_tallies, opened_at, refuse, step, step_in, take_slot}
 use Rattle.runs.proofs.Counting.{tallied_none}
 use Rattle.runs.proofs.Calls.{call_fine}
 use Rattle.runs.proofs.Good.{Fit, Good, rising_holds}
@@ -32,14 +32,16 @@ module _ (F : Format) (m : Memory) (n : ℕ) where
   -- empty slots are sound
   fresh_sound : Sound F m (view (fresh n))
   fresh_sound = record {
-    unique = λ i k x p q. cc (fresh_shadow i n, nothing_shadows x);
-    backed = λ i. subst (Backed m) (sym (fresh_shadow i n)) tt;
-    within = λ i j l. fresh_place i j n;
-    links = λ i d w s e. let c : Empty ≡ Link w s = sym (fresh_place i d n) ∙ e in cc;
-    leaves = λ i j w a b e. let c : Empty ≡ Leaf w a b = sym (fresh_place i j n) ∙ e in cc;
-    pieces = λ i j b e. let c : Empty ≡ Piece b = sym (fresh_place i j n) ∙ e in cc;
+    framed = record {
+      unique = λ i k x p q. cc (fresh_shadow i n, nothing_shadows x);
+      backed = λ i. subst (Backed m) (sym (fresh_shadow i n)) tt;
+      within = λ i j l. fresh_place i j n;
+      links = λ i d w s e. absurd (cc (sym (fresh_place i d n) ∙ e));
+      leaves = λ i j w a b e. absurd (cc (sym (fresh_place i j n) ∙ e));
+      pieces = λ i j b e. absurd (cc (sym (fresh_place i j n) ∙ e));
+      apart = λ i k f e q. cc (sym (fresh_shadow k n) ∙ q);
+    };
     shut = λ i j g k e. absurd (false≢true (sym (ap (λ p. opens j (shadow_at i (fresh n)) g p) (fresh_place i j n)) ∙ e));
-    apart = λ i k f e q. let c : Nothing ≡ Directory f = sym (fresh_shadow k n) ∙ q in cc;
   }
 
   fresh_fit : 2 ≤ n → n ≤ 8 → Fit F m (fresh n) (numbered n)

@@ -18,7 +18,7 @@ use Rattle.runs.proofs.Basics.{by_eq, by_eq₂, cond_other, elim_eq}
 use Rattle.runs.proofs.Losses.{Less, checked_less, guard_at_less, kept, less_cond, less_empty, less_leaf, less_link, less_opens, less_piece, unlink_less}
 use Rattle.runs.proofs.Memories.{has_stored, up_trans, word_stored_other}
 use Rattle.runs.proofs.Shadows.{Alike, alike_directory, alike_shadows, alike_split, alike_sym, alike_table, as_is, emptied_shadows, new_only, new_protected, nothing_shadows, state, sync_alike, table_here}
-use Rattle.runs.proofs.Sound.{Backed, Leads, Leafed, Linked, Pages, Pieced, Raises, Sound, Up, guards, named, opens, same}
+use Rattle.runs.proofs.Sound.{Backed, Framed, Leads, Leafed, Linked, Pages, Pieced, Raises, Sound, Up, guards, named, opens, same}
 use Rattle.runs.proofs.Views.{View, guard_at, unlink_at, v_check, v_checked, v_drop, v_evict, v_fill, v_flag_off, v_guard, v_put, v_sync}
 
 -- WORDS OF THE GUEST
@@ -27,14 +27,14 @@ module _ (F : Format) (m : Memory) (v : View) (sound : Sound F m v) (i j : ℕ) 
   -- a link is the guest's word, but for marks
   pub link_now : (f w s : ℕ) → v.sh i ≡ Directory f → v.pl i j ≡ Link w s → Up F w (word_at m f j)
   link_now f w s at p =
-      let l = sound.links i j w s p in
+      let l = sound.framed.links i j w s p in
       let same_root : l.root ≡ f = cc (l.is, at) in
       subst (λ (n : ℕ). Up F w (word_at m n j)) same_root l.up
 
   -- .. and so is a leaf of a protected table
   pub leaf_now : (f w a : ℕ) (b : Bool) → v.sh i ≡ Table f Protected → v.pl i j ≡ Leaf w a b → Up F w (word_at m f j)
   leaf_now f w a b at p =
-      let l = sound.leaves i j w a b p in
+      let l = sound.framed.leaves i j w a b p in
       let st : l.state ≡ Protected = cc (l.is, at) in
       let same_frame : l.frame ≡ f = cc (l.is, at) in
       subst (λ (n : ℕ). Up F w (word_at m n j)) same_frame (l.up st)
@@ -58,20 +58,8 @@ module _ (m n : Memory) (has : (f : ℕ) → has_words (n f) ≡ has_words (m f)
 
 -- SOUND BUT FOR THE FLAGS
 
-record Framed (F : Format) (m : Memory) (v : View) : Type 0 where
-  unique : (i k : ℕ) (x : Thing) → shadows (v.sh i) x ≡ true → shadows (v.sh k) x ≡ true → i ≡ k
-  backed : (i : ℕ) → Backed m (v.sh i)
-  within : (i j : ℕ) → 1024 ≤ j → v.pl i j ≡ Empty
-  links : (i d w s : ℕ) → v.pl i d ≡ Link w s → Linked F m v i d w s
-  leaves : (i j w a : ℕ) (b : Bool) → v.pl i j ≡ Leaf w a b → Leafed F m v i j w a
-  pieces : (i j : ℕ) (b : Bool) → v.pl i j ≡ Piece b → Pieced m v i j
-  apart : (i k f : ℕ) → v.sh i ≡ Table f Unsynchronised → v.sh k ≡ Directory f → ⊥
-
-framed : {F : Format} {m : Memory} {v : View} → Sound F m v → Framed F m v
-framed s = record { unique = s.unique; backed = s.backed; within = s.within; links = s.links; leaves = s.leaves; pieces = s.pieces; apart = s.apart }
-
-flagged : {F : Format} {m : Memory} {v : View} → Framed F m v → ((i j g k : ℕ) → opens j (v.sh i) g (v.pl i j) ≡ true → guards g (v.sh k) ≡ false) → Sound F m v
-flagged s shut = record { unique = s.unique; backed = s.backed; within = s.within; links = s.links; leaves = s.leaves; pieces = s.pieces; shut = shut; apart = s.apart }
+sound_by : {F : Format} {m : Memory} {v : View} → Framed F m v → ((i j g k : ℕ) → opens j (v.sh i) g (v.pl i j) ≡ true → guards g (v.sh k) ≡ false) → Sound F m v
+sound_by framed shut = record { framed = framed; shut = shut }
 
 -- the same things in the same slots, and no more in the places
 framed_alike : (F : Format) (m n : Memory) (v u : View) → Framed F m v
@@ -138,7 +126,7 @@ module _ (F : Format) (m : Memory) (v : View) where
 
   guard_almost : (f : ℕ) → Framed F m v → ShutBut f → Sound F m (v_guard f v)
   unfolding v_guard
-  guard_almost f fr shut = flagged (guard_framed fr f) (λ i j g k e. shuts i j g k e (cases_eq g f))
+  guard_almost f fr shut = sound_by (guard_framed fr f) (λ i j g k e. shuts i j g k e (cases_eq g f))
     where
       shuts : (i j g k : ℕ) → opens j ((v_guard f v).sh i) g ((v_guard f v).pl i j) ≡ true → (g ≡ f) ⊎ (g ≡ f → ⊥) → guards g ((v_guard f v).sh k) ≡ false
       shuts i j g k e (inl q) = cc (shut_framed fr f i j)
@@ -152,22 +140,22 @@ module _ (F : Format) (m : Memory) (v : View) (sound : Sound F m v) where
     where
       go : (j < 1024) ⊎ (1024 ≤ j) → j < 1024
       go (inl h) = h
-      go (inr h) = absurd (stands (sound.within i j h))
+      go (inr h) = absurd (stands (sound.framed.within i j h))
 
   pub sound_raise : (n : Memory) → Raises F m n → Sound F n v
-  sound_raise n ra = flagged (framed_alike F m n v v (framed sound) ra.has (λ k. as_is) (λ i j. kept)
+  sound_raise n ra = sound_by (framed_alike F m n v v sound.framed ra.has (λ k. as_is) (λ i j. kept)
       (λ i j r w s e d p. up_trans p (ra.up r j (inside i j (λ z. cc))))
       (λ i j f w a b e d p. up_trans (p d) (ra.up f j (inside i j (λ z. cc))))
-      sound.apart) sound.shut
+      sound.framed.apart) sound.shut
 
   moved : (g i w r j x : ℕ) → i < 1024 → j < 1024 → ((r ≡ g) × (j ≡ i) → ⊥) → Up F x (word_at m r j) → Up F x (word_at (stored m g i w) r j)
   moved g i w r j x h k other p = subst (λ y. Up F x y) (sym (word_stored_other m g i w r j h k (λ z. other (sym z.0, sym z.1)))) p
 
   pub sound_store : (g i w : ℕ) → i < 1024 → ((k : ℕ) → guards g (v.sh k) ≡ false) → Sound F (stored m g i w) v
-  sound_store g i w h free = flagged (framed_alike F m _ v v (framed sound) (has_stored m g i w) (λ k. as_is) (λ a j. kept)
+  sound_store g i w h free = sound_by (framed_alike F m _ v v sound.framed (has_stored m g i w) (λ k. as_is) (λ a j. kept)
       (λ a j r x s e d p. moved g i w r j x h (inside a j (λ z. cc)) (λ z. cc (free a, eq-eqb r g z.0)) p)
       (λ a j f x b c e d p. moved g i w f j x h (inside a j (λ z. cc)) (λ z. cc (free a, eq-eqb f g z.0)) (p d))
-      sound.apart) sound.shut
+      sound.framed.apart) sound.shut
 
   drop_less : (g i k l : ℕ) → Less ((v_drop g i v).pl k l) (v.pl k l)
   unfolding v_drop
@@ -180,10 +168,10 @@ module _ (F : Format) (m : Memory) (v : View) (sound : Sound F m v) where
 
   pub sound_directory_store : (g i w : ℕ) → i < 1024 → Sound F (stored m g i w) (v_drop g i v)
   unfolding v_drop
-  sound_directory_store g i w h = flagged (framed_alike F m _ v (v_drop g i v) (framed sound) (has_stored m g i w) (λ k. as_is) (drop_less g i)
+  sound_directory_store g i w h = sound_by (framed_alike F m _ v (v_drop g i v) sound.framed (has_stored m g i w) (λ k. as_is) (drop_less g i)
       (λ a j r x s e d p. moved g i w r j x h (inside a j (λ z. cc (less_link (drop_less g i a j) x s e))) (drop_other g i a j r (ap (copies g) d) (λ z. cc)) p)
       (λ a j f x b c e d p. let l = less_leaf (drop_less g i a j) x b c e in moved g i w f j x h (inside a j (λ z. cc (l.1))) (drop_other g i a j f (ap (copies g) d) (λ z. cc)) (p d))
-      sound.apart) (λ a j f k e. sound.shut a j f k (less_opens (drop_less g i a j) j (v.sh a) f e))
+      sound.framed.apart) (λ a j f k e. sound.shut a j f k (less_opens (drop_less g i a j) j (v.sh a) f e))
 
   -- UNSYNCHRONISED TABLES
 
@@ -195,7 +183,7 @@ module _ (F : Format) (m : Memory) (v : View) (sound : Sound F m v) where
         (λ e. other e (v.sh n) refl)
       where
         only : (f : ℕ) (z : SyncState) → v.sh n ≡ Table f z → f ≡ g → n ≡ k
-        only f z p q = sound.unique n k (thing.Table g) (ap (is_table_of g) p ∙ eq-eqb f g q) (ap (is_table_of g) at ∙ table_here g y)
+        only f z p q = sound.framed.unique n k (thing.Table g) (ap (is_table_of g) p ∙ eq-eqb f g q) (ap (is_table_of g) at ∙ table_here g y)
 
         other : (n ≡ k → ⊥) → (x : Shadow) → v.sh n ≡ x → guards g x ≡ false
         other e (Directory f) p = sym (ap (is_directory_of g) p) ∙ none n
@@ -204,7 +192,7 @@ module _ (F : Format) (m : Memory) (v : View) (sound : Sound F m v) where
 
     pub sound_unsync : Sound F m (v_sync k Unsynchronised v)
     unfolding v_sync
-    sound_unsync = flagged (framed_alike F m m v _ (framed sound) (λ f. refl) alike (λ i j. kept) (λ i j r w s e d p. p)
+    sound_unsync = sound_by (framed_alike F m m v _ sound.framed (λ f. refl) alike (λ i j. kept) (λ i j r w s e d p. p)
         (λ i j f w a b e d p. p (protected (eqb i k) (v.sh i) f d))
         (λ i n f e d. not_both n f (table_of i f e) (alike_directory (alike_sym (alike n)) f d)))
         (λ i j f n e. fewer (eqb n k) (v.sh n) f (sound.shut i j f n (alike_opens (alike i) j f (v.pl i j) e)))
@@ -228,7 +216,7 @@ module _ (F : Format) (m : Memory) (v : View) (sound : Sound F m v) where
             (λ q e. inr (cc (ap (λ n. with_sync Unsynchronised (v.sh n)) q ∙ ap (with_sync Unsynchronised) at, e))) (λ q e. inl e)
 
         not_both : (n f : ℕ) → {i : ℕ} → (v.sh i ≡ Table f Unsynchronised) ⊎ (f ≡ g) → v.sh n ≡ Directory f → ⊥
-        not_both n f (inl e) d = sound.apart _ n f e d
+        not_both n f (inl e) d = sound.framed.apart _ n f e d
         not_both n f (inr e) d = cc (none n, eq-eqb f g e)
 
 -- NEW PLACES
@@ -251,22 +239,24 @@ module _ (F : Format) (m : Memory) where
   module _ (v : View) (sound : Sound F m v) where
     fits_at : (i j : ℕ) → (p : Place) → v.pl i j ≡ p → Fits v i j p
     fits_at i j Empty e = tt
-    fits_at i j (Link w s) e = sound.links i j w s e
-    fits_at i j (Leaf w a b) e = sound.leaves i j w a b e
-    fits_at i j (Piece b) e = sound.pieces i j b e
+    fits_at i j (Link w s) e = sound.framed.links i j w s e
+    fits_at i j (Leaf w a b) e = sound.framed.leaves i j w a b e
+    fits_at i j (Piece b) e = sound.framed.pieces i j b e
 
     sound_put : (i j : ℕ) (p : Place) → (1024 ≤ j → p ≡ Empty) → Fits v i j p → ((g k : ℕ) → opens j (v.sh i) g p ≡ true → guards g (v.sh k) ≡ false) → Sound F m (v_put i j p v)
     unfolding v_put
     sound_put i j p inside fits free = record {
-      unique = sound.unique;
-      backed = sound.backed;
-      within = λ a b h. by_eq₂ a i b j (λ x. cond x p (v.pl a b) ≡ Empty) (λ q r. inside (subst (λ x. 1024 ≤ x) r h)) (λ q. sound.within a b h);
-      links = λ a b w s e. subst (Fits _ a b) e (all a b);
-      leaves = λ a b w f c e. subst (Fits _ a b) e (all a b);
-      pieces = λ a b c e. subst (Fits _ a b) e (all a b);
+      framed = record {
+        unique = sound.framed.unique;
+        backed = sound.framed.backed;
+        within = λ a b h. by_eq₂ a i b j (λ x. cond x p (v.pl a b) ≡ Empty) (λ q r. inside (subst (λ x. 1024 ≤ x) r h)) (λ q. sound.framed.within a b h);
+        links = λ a b w s e. subst (Fits _ a b) e (all a b);
+        leaves = λ a b w f c e. subst (Fits _ a b) e (all a b);
+        pieces = λ a b c e. subst (Fits _ a b) e (all a b);
+        apart = sound.framed.apart;
+      };
       shut = λ a b g k. by_eq₂ a i b j (λ x. opens b (v.sh a) g (cond x p (v.pl a b)) ≡ true → guards g (v.sh k) ≡ false)
           (λ q r e. free g k (subst (λ y. opens y (v.sh i) g p ≡ true) r (subst (λ x. opens b (v.sh x) g p ≡ true) q e))) (λ q e. sound.shut a b g k e);
-      apart = sound.apart;
     }
       where
         all : (a b : ℕ) → Fits (v_put i j p v) a b (cond (eqb a i && eqb b j) p (v.pl a b))
@@ -318,8 +308,8 @@ module _ (F : Format) (m : Memory) (v : View) (sound : Sound F m v) where
   pub sound_check : (i f : ℕ) (y : SyncState) → v.sh i ≡ Table f y → Sound F m (v_check m i f v)
   unfolding v_check
   sound_check i f y at = guard_almost F m u f
-      (framed_alike F m m v u (framed sound) (λ g. refl) alike less (λ a j r w s e d p. p) leaf_up
-      (λ a k g e d. sound.apart a k g (unsync a g e) (alike_directory (alike_sym (alike k)) g d)))
+      (framed_alike F m m v u sound.framed (λ g. refl) alike less (λ a j r w s e d p. p) leaf_up
+      (λ a k g e d. sound.framed.apart a k g (unsync a g e) (alike_directory (alike_sym (alike k)) g d)))
       (λ a j g k q e. more_guards g k q (sound.shut a j g k (less_opens (less a j) j (v.sh a) g (alike_opens (alike a) j g (u.pl a j) e))))
     where
       u : View
@@ -361,17 +351,17 @@ module _ (F : Format) (m : Memory) (v : View) (sound : Sound F m v) where
   framed_anew u i elsewhere less stands unlinks unique backed apart = record {
     unique = unique;
     backed = backed;
-    within = λ k j h. less_empty (less k j) (sound.within k j h);
+    within = λ k j h. less_empty (less k j) (sound.framed.within k j h);
     links = λ k d w s e.
-        let x = sound.links k d w s (less_link (less k d) w s e) in
+        let x = sound.framed.links k d w s (less_link (less k d) w s e) in
         record { root = x.root; is = elsewhere k (stands k d (λ z. cc)) ∙ x.is; leads = x.leads; names = rw (elsewhere s (unlinks k d w s e x)) x.names; up = x.up };
     leaves = λ k j w a b e.
         let l = less_leaf (less k j) w a b e in
-        let x = sound.leaves k j w a l.0 l.1 in
+        let x = sound.framed.leaves k j w a l.0 l.1 in
         record { frame = x.frame; state = x.state; is = elsewhere k (stands k j (λ z. cc)) ∙ x.is; pages = x.pages; target = x.target; up = x.up };
     pieces = λ k j b e.
         let l = less_piece (less k j) b e in
-        let x = sound.pieces k j l.0 l.1 in
+        let x = sound.framed.pieces k j l.0 l.1 in
         record { first = x.first; is = elsewhere k (stands k j (λ z. cc)) ∙ x.is; target = x.target };
     apart = apart;
   }
@@ -387,14 +377,14 @@ module _ (F : Format) (m : Memory) (v : View) (sound : Sound F m v) where
 
   pub sound_evict : (i : ℕ) → Sound F m (v_evict i v)
   unfolding v_evict
-  sound_evict i = flagged (framed_anew (v_evict i v) i
+  sound_evict i = sound_by (framed_anew (v_evict i v) i
       (λ k q. ap (λ b. cond b Nothing (v.sh k)) (ne_eqb k i q))
       (λ k j. less_cond (eqb k i) (unlink_less i (v.sh k) (v.pl k j)))
       (λ k j stands q. stands (ap (λ b. cond b Empty (unlink_at i (v.sh k) (v.pl k j))) (eq-eqb k i q)))
       unlinks
-      (λ a b x p q. sound.unique a b x (emptied_shadows (eqb a i) (v.sh a) x p) (emptied_shadows (eqb b i) (v.sh b) x q))
-      (λ k. elim (eqb k i) as (λ b. Backed m (cond b Nothing (v.sh k))) [ true ↦ tt | false ↦ sound.backed k ])
-      (λ a k f e d. sound.apart a k f (table a f e) (directory k f d)))
+      (λ a b x p q. sound.framed.unique a b x (emptied_shadows (eqb a i) (v.sh a) x p) (emptied_shadows (eqb b i) (v.sh b) x q))
+      (λ k. elim (eqb k i) as (λ b. Backed m (cond b Nothing (v.sh k))) [ true ↦ tt | false ↦ sound.framed.backed k ])
+      (λ a k f e d. sound.framed.apart a k f (table a f e) (directory k f d)))
       (λ k j g l e. opens_anew i Nothing (λ a b. unlink_at i (v.sh a) (v.pl a b)) (λ a b. unlink_less i (v.sh a) (v.pl a b)) k j g l e refl)
     where
       unlinks : (k d w s : ℕ) → cond (eqb k i) Empty (unlink_at i (v.sh k) (v.pl k d)) ≡ Link w s → Linked F m v k d w s → s ≡ i → ⊥
@@ -417,8 +407,8 @@ module _ (F : Format) (m : Memory) (v : View) (sound : Sound F m v) where
         (λ k j stands q. stands (ap (λ b. cond b Empty (v.pl k j)) (eq-eqb k i q)))
         (λ k d w s e l q. cc (nothing_shadows (named F w), l.names))
         unique
-        (λ k. elim (eqb k i) as (λ b. Backed m (cond b (shadow_of x) (v.sh k))) [ true ↦ backs | false ↦ sound.backed k ])
-        (λ a k f e. elim (eqb k i) as (λ b. cond b (shadow_of x) (v.sh k) ≡ Directory f → ⊥) [ true ↦ lags a f (table a f e) | false ↦ sound.apart a k f (table a f e) ])
+        (λ k. elim (eqb k i) as (λ b. Backed m (cond b (shadow_of x) (v.sh k))) [ true ↦ backs | false ↦ sound.framed.backed k ])
+        (λ a k f e. elim (eqb k i) as (λ b. cond b (shadow_of x) (v.sh k) ≡ Directory f → ⊥) [ true ↦ lags a f (table a f e) | false ↦ sound.framed.apart a k f (table a f e) ])
       where
         -- what shadows x is slot i
         only : (k : ℕ) (y : Thing) → shadows (shadow_of x) y ≡ true → shadows (v.sh k) y ≡ true → ⊥
@@ -427,7 +417,7 @@ module _ (F : Format) (m : Memory) (v : View) (sound : Sound F m v) where
         unique : (a b : ℕ) (y : Thing) → shadows (cond (eqb a i) (shadow_of x) (v.sh a)) y ≡ true → shadows (cond (eqb b i) (shadow_of x) (v.sh b)) y ≡ true → a ≡ b
         unique a b y = by_eq a i (λ t. shadows (cond t (shadow_of x) (v.sh a)) y ≡ true → shadows (cond (eqb b i) (shadow_of x) (v.sh b)) y ≡ true → a ≡ b)
             (λ q p. by_eq b i (λ t. shadows (cond t (shadow_of x) (v.sh b)) y ≡ true → a ≡ b) (λ r e. q ∙ sym r) (λ r e. absurd (only b y p e)))
-            (λ q p. by_eq b i (λ t. shadows (cond t (shadow_of x) (v.sh b)) y ≡ true → a ≡ b) (λ r e. absurd (only a y e p)) (λ r e. sound.unique a b y p e))
+            (λ q p. by_eq b i (λ t. shadows (cond t (shadow_of x) (v.sh b)) y ≡ true → a ≡ b) (λ r e. absurd (only a y e p)) (λ r e. sound.framed.unique a b y p e))
 
         table : (k f : ℕ) → cond (eqb k i) (shadow_of x) (v.sh k) ≡ Table f Unsynchronised → v.sh k ≡ Table f Unsynchronised
         table k f = cond_other (eqb k i) (new_protected x f)
@@ -447,4 +437,4 @@ module _ (F : Format) (m : Memory) (v : View) (sound : Sound F m v) where
         (λ k j g l q e. fill_shut (thing.Table f) k j g l e (ne_eqb f g (λ z. q (sym z))))
 
     pub sound_fill_split : (f : ℕ) → ((k : ℕ) → is_split_of f (v.sh k) ≡ false) → Sound F m (v_fill i (thing.Split f) v)
-    sound_fill_split f new = flagged (framed_fill (thing.Split f) tt new (λ k g e d. cc)) (λ k j g l e. fill_shut (thing.Split f) k j g l e refl)
+    sound_fill_split f new = sound_by (framed_fill (thing.Split f) tt new (λ k g e d. cc)) (λ k j g l e. fill_shut (thing.Split f) k j g l e refl)

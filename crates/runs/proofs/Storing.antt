@@ -242,7 +242,7 @@ module _ (F : Format) (m : Memory) (root : ℕ) (t : SlotTable) (q : List ℕ) (
           let k = slot_some (protects f) (put_place s j p t) e in
           let at = sym (put_shadow k.0) ∙ protected_table f (shadow_at k.0 (put_place s j p t)) k.1 in
           let yes_n : is_table_of f (shadow_at n t) ≡ true = ap (is_table_of f) (sym (put_shadow n)) ∙ (find_some (thing.Table f) (put_place s j p t) n (roomy_put s j p t ok.roomy) z).0 in
-          let same_slot : k.0 ≡ n = ok.sound.unique k.0 n (thing.Table f) (ap (is_table_of f) at ∙ table_here f Protected) yes_n in
+          let same_slot : k.0 ≡ n = ok.sound.framed.unique k.0 n (thing.Table f) (ap (is_table_of f) at ∙ table_here f Protected) yes_n in
           let there : shadow_at n t ≡ Table f Protected = ap (λ (x : ℕ). shadow_at x t) (sym same_slot) ∙ at in
           (kept_table n there, stands_table n there)
 

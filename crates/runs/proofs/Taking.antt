@@ -18,7 +18,7 @@ use Rattle.runs.proofs.Fewer.{Fewer, fewer_evict, fewer_fill, fewer_guard, fewer
 use Rattle.runs.proofs.Good.{Fit, refit}
 use Rattle.runs.proofs.Places.{empty_none, empty_some, find_none, find_some, permitted_if, permitted_says, roomy_evict, roomy_fill, roomy_guard, view_evict, view_fill, view_guard}
 use Rattle.runs.proofs.Resyncs.{Turned, resynced, turned_directory, turned_same}
-use Rattle.runs.proofs.Shadows.{calm_no_table, directory_here, emptied_shadows, is_directory_at, is_nothing_at, new_calm, new_directory, new_shadows, nothing_shadows, table_here}
+use Rattle.runs.proofs.Shadows.{calm_no_table, directory_here, emptied_shadows, is_directory_at, is_nothing_at, new_calm, new_directory, new_shadows, table_here}
 use Rattle.runs.proofs.Sound.{Sound}
 use Rattle.runs.proofs.Sounds.{sound_evict, sound_fill_directory, sound_fill_split, sound_fill_table}
 use Rattle.runs.proofs.Views.{Roomy, v_evict, v_fill, v_guard, view}
@@ -154,7 +154,7 @@ module _ (F : Format) (R : Rule) (kept_order : OrdersKept R) (m : Memory) where
             turned = a.turned;
             lag = λ k z.
                 let yes_k : is_table_of f (shadow_at k (resync m i t)) ≡ true = ap (is_table_of f) z ∙ table_here f Unsynchronised in
-                let same : k ≡ i = fit.sound.unique k i (thing.Table f) (sym (a.turned.things k (thing.Table f)) ∙ yes_k) (find_some (thing.Table f) t i fit.roomy e).0 in
+                let same : k ≡ i = fit.sound.framed.unique k i (thing.Table f) (sym (a.turned.things k (thing.Table f)) ∙ yes_k) (find_some (thing.Table f) t i fit.roomy e).0 in
                 calm_no_table a.calm (ap (λ (j : ℕ). shadow_at j (resync m i t)) (sym same) ∙ z);
           }
 
@@ -299,5 +299,5 @@ module _ (F : Format) (R : Rule) (kept_order : OrdersKept R) (m : Memory) where
         1,
         l1,
         takes _ _ _ (lt-ltb 1 t.count l1) (empty_none t fit.roomy fit.few e 1 l1)
-            (false_from_ne_true _ (λ c. let u : ◌≡◌ {A = ℕ} 0 1 = fit.sound.unique 0 1 (thing.Directory root) d c in cc)),
+            (false_from_ne_true _ (λ c. let u : ◌≡◌ {A = ℕ} 0 1 = fit.sound.framed.unique 0 1 (thing.Directory root) d c in cc)),
       )

@@ -5,8 +5,8 @@ use Rattle.memory.specs.Memory.{Contents, Memory, words, cause, has_words}
 use Rattle.paging.specs.Formats.{Format, LawsOfMarking}
 use Rattle.paging.specs.Terms.{because_absent, because_denied, because_malformed, directory_level, is_absent, is_page, is_table, table_level}
 use Rattle.walk.specs.Marking.{Write, due, mark_at, mark_of, put_all}
-use Rattle.walk.specs.Walk.{Asked, Failure, Outcome, Seen, Spot, arrive, at_page, at_table, by_directory, by_table, directory_index, fails, faulted, in_directory, in_table, reached, seen, spot, table_index, walk_from}
-use Rattle.runs.specs.Laws.{below_directory, fault, guest_walk, root_read, table_read, to, with_marks, word_at, word_in, words_read}
+use Rattle.walk.specs.Walk.{Asked, Failure, Outcome, Seen, Spot, arrive, at_page, at_table, directory_index, fails, faulted, in_directory, in_table, reached, seen, spot, table_index, walk_from}
+use Rattle.runs.specs.Laws.{guest_walk, to, with_marks, word_at, word_in, words_read}
 use Rattle.runs.proofs.Memories.{put_all_append, raises_mark, raises_refl, raises_trans, small_append, word_stored_same}
 use Rattle.runs.proofs.Moments.{SmallWrites}
 use Rattle.runs.proofs.Sound.{Leads, Pages, Raises, Up, more, named, same}

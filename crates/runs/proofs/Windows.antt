@@ -6,7 +6,7 @@ use Rattle.paging.specs.Formats.{Format}
 use Rattle.paging.specs.Terms.{store}
 use Rattle.walk.specs.Marking.{Write, put_all}
 use Rattle.walk.specs.Walk.{Asked, directory_index, table_index, word_index}
-use Rattle.runs.specs.Histories.{Event, History, Opening, Sometime, at_end, at_opening, between, covers, earlier, failed, flushed_all, flushed_page, marks_in, memory_at, memory_between, moded, settled, stored_since, stores_in, switched, went, writes_to}
+use Rattle.runs.specs.Histories.{Event, History, Opening, Sometime, at_end, at_opening, between, covers, earlier, marks_in, memory_at, memory_between, stored_since, stores_in, went, writes_to}
 use Rattle.runs.specs.Laws.{last_put, last_written, word_at}
 use Rattle.runs.specs.Terms.{Through}
 use Rattle.runs.proofs.Memories.{has_put_all, last_put_append, last_put_is, put_all_other, up_trans}
