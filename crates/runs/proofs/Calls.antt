@@ -241,10 +241,8 @@ module _ (F : Format) (laws : LawsOfMarking F) (R : Rule) (kept_order : OrdersKe
     page_dropped a = go (place_at I (directory_index a) r.table) refl
       where
         go : (x : Place) → place_at I (directory_index a) r.table ≡ x → Dropped a (drop_below (table_index a) r.table x)
-        go Empty e = undropped a Empty e (λ w k z. cc)
         go (Link w k) e = dropped_link a w k e
-        go (Leaf w c b) e = undropped a (Leaf w c b) e (λ u k z. cc)
-        go (Piece b) e = undropped a (Piece b) e (λ u k z. cc)
+        go x e = undropped a x e (λ w k z. cc)
 
     page_good : (a : ℕ) → Good F o (flushed_page a ∷ h) (record { table = drop_page root a r.table; order = r.order; hart = count_in flush 0 r.hart })
     page_good a = record {

@@ -135,11 +135,8 @@ module _ (F : Format) (R : Rule) (kept_order : OrdersKept R) (m : Memory) (root 
 
         by_test : (v s : ℕ) (b c : Bool) → place_at I d t ≡ Link v s → eqb v w ≡ b → shadows (shadow_at s t) (named F w) ≡ c → LinkedUp d w (cond (b && c) (taken s t q 0) (with_link I d w (obtain R m (Some root) (named F w) t q)))
         by_test v s true true e p z = there s (e ∙ ap (λ (n : ℕ). Link n s) (eqb-true v w p)) z
-        by_test v s true false e p z = again
-        by_test v s false c e p z = again
+        by_test v s b c e p z = again
 
         go : (y : Place) → place_at I d t ≡ y → LinkedUp d w (cond (good_link t w (named F w) y) (taken (link_slot y) t q 0) (with_link I d w (obtain R m (Some root) (named F w) t q)))
-        go Empty e = again
         go (Link v s) e = by_test v s (eqb v w) (shadows (shadow_at s t) (named F w)) e refl refl
-        go (Leaf v c b) e = again
-        go (Piece b) e = again
+        go y e = again

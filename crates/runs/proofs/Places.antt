@@ -75,14 +75,10 @@ small_slot t i r e = go (cases_lt i 8)
 
 module _ (f : ℕ) (s : Slot) where
   guard_shadow : (x : Shadow) → (guard_as f s x).shadow ≡ s.shadow
-  guard_shadow Nothing = refl
-  guard_shadow (Directory g) = refl
-  guard_shadow (Table g y) = refl
   guard_shadow (Split g) = elim (in_split f g) as (λ b. (cond b (change_place (f - g) flag_off s) s).shadow ≡ s.shadow) [ true ↦ refl | false ↦ refl ]
+  guard_shadow x = refl
 
   guard_place : (j : ℕ) → (1024 ≤ j → get_or s.places j Empty ≡ Empty) → (x : Shadow) → get_or (guard_as f s x).places j Empty ≡ guard_at f j x (get_or s.places j Empty)
-  guard_place j past Nothing = refl
-  guard_place j past (Directory g) = refl
   guard_place j past (Table g y) = ListN.get_or-map (guard_leaf f) s.places j Empty
   guard_place j past (Split g) = go (in_split f g) refl
     where
@@ -102,6 +98,7 @@ module _ (f : ℕ) (s : Slot) where
           changed flag_off Empty refl s.places (f - g) j (λ b q. q ≡ cond b (flag_off (get_or s.places j Empty)) (get_or s.places j Empty)) refl refl
           ∙ ap (λ b. cond b (flag_off (get_or s.places j Empty)) (get_or s.places j Empty)) (same (leb-true g f (and_parts (leb g f) (ltb f (g + 1024)) e).0))
       go false e = outside e (cases_lt (g + j) (g + 1024)) (cases_eq (g + j) f)
+  guard_place j past x = refl
 
 -- a split guards the frames of its 1,024 places only
 pub view_guard : (f : ℕ) (t : SlotTable) → Roomy t → view (guard f t) ≡ v_guard f (view t)
@@ -117,16 +114,12 @@ view_guard f t r = same_view (view (guard f t)) (v_guard f (view t))
 
 module _ (i : ℕ) (s : Slot) where
   unlink_shadow : (x : Shadow) → (unlink_as i s x).shadow ≡ s.shadow
-  unlink_shadow Nothing = refl
   unlink_shadow (Directory g) = refl
-  unlink_shadow (Table g y) = refl
-  unlink_shadow (Split g) = refl
+  unlink_shadow x = refl
 
   unlink_in : (j : ℕ) (x : Shadow) → get_or (unlink_as i s x).places j Empty ≡ unlink_at i x (get_or s.places j Empty)
-  unlink_in j Nothing = refl
   unlink_in j (Directory g) = ListN.get_or-map (unlink_place i) s.places j Empty
-  unlink_in j (Table g y) = refl
-  unlink_in j (Split g) = refl
+  unlink_in j x = refl
 
 pub view_evict : (i : ℕ) (t : SlotTable) → view (evict i t) ≡ v_evict i (view t)
 unfolding v_evict
@@ -317,22 +310,19 @@ pub roomy_guard : (f : ℕ) (t : SlotTable) → Roomy t → Roomy (guard f t)
 roomy_guard f t = roomy_all (guard_slot f) t refl (λ s. keeps s s.shadow)
   where
     keeps : (s : Slot) (x : Shadow) → length (guard_as f s x).places ≡ length s.places
-    keeps s Nothing = refl
-    keeps s (Directory g) = refl
     keeps s (Table g y) = length-map s.places (guard_leaf f)
     keeps s (Split g) = elim (in_split f g) as (λ b. length (cond b (change_place (f - g) flag_off s) s).places ≡ length s.places) [
       | true ↦ length-set s.places (f - g) (flag_off (get_or s.places (f - g) Empty))
       | false ↦ refl
     ]
+    keeps s x = refl
 
 pub roomy_evict : (i : ℕ) (t : SlotTable) → Roomy t → Roomy (evict i t)
 roomy_evict i t r = roomy_slot i (λ s. bare Nothing) (change_all (unlink_slot i) t) (λ s e. length-replicate 1024 Empty) (roomy_all (unlink_slot i) t refl (λ s. keeps s s.shadow) r)
   where
     keeps : (s : Slot) (x : Shadow) → length (unlink_as i s x).places ≡ length s.places
-    keeps s Nothing = refl
     keeps s (Directory g) = length-map s.places (unlink_place i)
-    keeps s (Table g y) = refl
-    keeps s (Split g) = refl
+    keeps s x = refl
 
 pub roomy_fill : (i : ℕ) (x : Thing) (t : SlotTable) → Roomy t → Roomy (fill i x t)
 roomy_fill i x t = roomy_slot i (λ s. bare (shadow_of x)) t (λ s e. length-replicate 1024 Empty)
@@ -364,10 +354,8 @@ pub roomy_check : (i : ℕ) (ws : List ℕ) (t : SlotTable) → Roomy t → Room
 roomy_check i ws t r = go (shadow_at i t)
   where
     go : (x : Shadow) → Roomy (check_as i ws t x)
-    go Nothing = r
-    go (Directory f) = r
     go (Table f y) = roomy_guard f (change_slot i (check_slot ws) t) (roomy_checked i ws t r)
-    go (Split f) = r
+    go x = r
 
 pub roomy_resync : (m : Memory) (i : ℕ) (t : SlotTable) → Roomy t → Roomy (resync m i t)
 unfolding resync
@@ -388,10 +376,8 @@ pub count_check : (i : ℕ) (ws : List ℕ) (t : SlotTable) → (check_table i w
 count_check i ws t = go (shadow_at i t)
   where
     go : (x : Shadow) → (check_as i ws t x).count ≡ t.count
-    go Nothing = refl
-    go (Directory f) = refl
     go (Table f y) = refl
-    go (Split f) = refl
+    go x = refl
 
 pub count_resync : (m : Memory) (i : ℕ) (t : SlotTable) → (resync m i t).count ≡ t.count
 unfolding resync

@@ -57,8 +57,7 @@ unguarded f x p q = refl
 
 pub nothing_shadows : (x : Thing) → shadows Nothing x ≡ false
 nothing_shadows (thing.Directory f) = refl
-nothing_shadows (thing.Table f) = refl
-nothing_shadows (thing.Split f) = refl
+nothing_shadows x = refl
 
 -- what a slot shadows that was perhaps emptied, it shadowed
 pub emptied_shadows : (b : Bool) (x : Shadow) (t : Thing) → shadows (cond b Nothing x) t ≡ true → shadows x t ≡ true
@@ -78,8 +77,7 @@ new_shadows (thing.Split f) = eq-eqb f f refl
 
 pub new_calm : (x : Thing) → lags (shadow_of x) ≡ false
 new_calm (thing.Directory f) = refl
-new_calm (thing.Table f) = refl
-new_calm (thing.Split f) = refl
+new_calm x = refl
 
 -- no unsynchronised table is in step
 pub calm_no_table : {A : Type 0} {x : Shadow} {f : ℕ} → lags x ≡ false → x ≡ Table f Unsynchronised → A
@@ -132,8 +130,7 @@ alike_sym state = state
 pub alike_shadows : {x y : Shadow} → Alike x y → (t : Thing) → shadows x t ≡ shadows y t
 alike_shadows as_is t = refl
 alike_shadows state (thing.Directory g) = refl
-alike_shadows state (thing.Table g) = refl
-alike_shadows state (thing.Split g) = refl
+alike_shadows state t = refl
 
 pub alike_directory : {x y : Shadow} → Alike x y → (r : ℕ) → y ≡ Directory r → x ≡ Directory r
 alike_directory as_is r e = e
@@ -148,8 +145,5 @@ alike_table as_is f s e = (s, e)
 alike_table (state {y = y}) f s e = (y, cc)
 
 pub sync_alike : (b : Bool) (y : SyncState) (x : Shadow) → Alike (cond b (with_sync y x) x) x
-sync_alike false y x = as_is
-sync_alike true y Nothing = as_is
-sync_alike true y (Directory f) = as_is
 sync_alike true y (Table f z) = state
-sync_alike true y (Split f) = as_is
+sync_alike b y x = as_is

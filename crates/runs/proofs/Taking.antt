@@ -137,8 +137,6 @@ module _ (F : Format) (R : Rule) (kept_order : OrdersKept R) (m : Memory) where
     pub lag : NoLag x n
 
   readied : (x : Thing) (t : SlotTable) (q : List ℕ) → Fit F m t q → Readied x t q (ready_for m x t)
-  readied (thing.Table f) t q fit = record { fit = fit; turned = turned_same; lag = tt }
-  readied (thing.Split f) t q fit = record { fit = fit; turned = turned_same; lag = tt }
   readied (thing.Directory f) t q fit = go (find_slot (thing.Table f) t) refl
     where
       go : (s : Option ℕ) → find_slot (thing.Table f) t ≡ s → Readied (thing.Directory f) t q (resync_found m t s)
@@ -157,6 +155,7 @@ module _ (F : Format) (R : Rule) (kept_order : OrdersKept R) (m : Memory) where
                 let same : k ≡ i = fit.sound.framed.unique k i (thing.Table f) (sym (a.turned.things k (thing.Table f)) ∙ yes_k) (find_some (thing.Table f) t i fit.roomy e).0 in
                 calm_no_table a.calm (ap (λ (j : ℕ). shadow_at j (resync m i t)) (sym same) ∙ z);
           }
+  readied x t q fit = record { fit = fit; turned = turned_same; lag = tt }
 
   -- a filled slot, and the others
   fill_sh : (i k : ℕ) (x : Thing) (t : SlotTable) → Roomy t → i < 8 → shadow_at k (fill i x t) ≡ cond (eqb k i) (shadow_of x) (shadow_at k t)
