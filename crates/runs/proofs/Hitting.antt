@@ -1,5 +1,6 @@
 -- An access hits just where its link stands, with a leaf or a piece below it that lets it through.
-use Rattle.std.proofs.Common.{◌≡◌, ℕ, ◌+◌, Bool, true, false, cond, not, ◌&&◌, ◌||◌, eqb, ltb, [], ◌∷◌, Some, None, refl, ap, ◌∙◌, subst}
+use Rattle.std.proofs.Common.{◌≡◌, ℕ, ◌+◌, Bool, true, false, cond, not, ◌&&◌, ◌||◌, eqb, ltb, [], ◌∷◌, Some, None, refl, ap, ◌∙◌, subst, arith}
+use Rattle.std.proofs.lemmas.Bool.Decides.{nat_tests}
 use Rattle.std.proofs.lemmas.Bool.{and_parts, eq-eqb, eqb-true}
 use Rattle.std.proofs.lemmas.Option.{cond_some}
 use Rattle.paging.specs.Formats.{Format}
@@ -28,31 +29,10 @@ pub record HitsLarge (F : Format) (k p w : ℕ) (b : Bool) : Type 0 where
 
 module _ (F : Format) (k p w : ℕ) (b : Bool) where
   pub small_parts : (x : ℕ) → hits F k p (w ∷ x ∷ []) b ≡ true → HitsSmall F k p w x b
-  small_parts x e =
-      let A : Bool = F.allows (w ∷ x ∷ []) k p in
-      let U : Bool = eqb (F.marks directory_level k w) w in
-      let L : Bool = eqb (F.marks table_level k x) x in
-      let top = and_parts (A && (U && (L && true))) (passes k b) e in
-      let rest = and_parts A (U && (L && true)) top.0 in
-      let both = and_parts U (L && true) rest.1 in
-      record {
-        allows = rest.0;
-        upper = eqb-true (F.marks directory_level k w) w both.0;
-        lower = eqb-true (F.marks table_level k x) x (and_parts L true both.1).0;
-        flag = top.1;
-      }
+  small_parts x e = record { allows = grind (arith, nat_tests); upper = grind (arith, nat_tests); lower = grind (arith, nat_tests); flag = grind (arith, nat_tests) }
 
   pub large_parts : hits F k p (w ∷ []) b ≡ true → HitsLarge F k p w b
-  large_parts e =
-      let A : Bool = F.allows (w ∷ []) k p in
-      let U : Bool = eqb (F.marks directory_level k w) w in
-      let top = and_parts (A && (U && true)) (passes k b) e in
-      let rest = and_parts A (U && true) top.0 in
-      record {
-        allows = rest.0;
-        upper = eqb-true (F.marks directory_level k w) w (and_parts U true rest.1).0;
-        flag = top.1;
-      }
+  large_parts e = record { allows = grind (arith, nat_tests); upper = grind (arith, nat_tests); flag = grind (arith, nat_tests) }
 
   pub small_hits : (x : ℕ) → F.allows (w ∷ x ∷ []) k p ≡ true → F.marks directory_level k w ≡ w → F.marks table_level k x ≡ x → passes k b ≡ true → hits F k p (w ∷ x ∷ []) b ≡ true
   small_hits x a u l f = rw (a, eq-eqb (F.marks directory_level k w) w u, eq-eqb (F.marks table_level k x) x l, f)
