@@ -10,7 +10,7 @@ use Rattle.walk.specs.Walk.{Asked, Failure, Outcome, directory_index, faulted, r
 use Rattle.shadow.specs.Slots.{place_at, put_place, shadow_at}
 use Rattle.slot.specs.Slot.{is_directory_of, shadows}
 use Rattle.slot.specs.declared.slots.Place.{Place}
-use Rattle.slot.specs.declared.slots.Place.TheVariants.{Empty, Link, Leaf, Piece}
+use Rattle.slot.specs.declared.slots.Place.TheVariants.{Empty, Link, Leaf}
 use Rattle.slot.specs.declared.slots.Shadow.TheVariants.{Directory, Table}
 use Rattle.shadow.specs.declared.slots.SlotTable.{SlotTable}
 use Rattle.slot.specs.declared.slots.SyncState.TheVariants.{Unsynchronised}

@@ -1,7 +1,7 @@
 -- An access hits just where its link stands, with a leaf or a piece below it that lets it through.
-use Rattle.std.proofs.Common.{◌≡◌, ℕ, ◌+◌, Bool, true, false, cond, not, ◌&&◌, ◌||◌, eqb, ltb, [], ◌∷◌, Some, None, refl, ap, ◌∙◌, subst, arith}
+use Rattle.std.proofs.Common.{◌≡◌, ℕ, ◌+◌, Bool, true, false, cond, eqb, ltb, [], ◌∷◌, Some, None, refl, ap, ◌∙◌, subst, arith}
 use Rattle.std.proofs.lemmas.Bool.Decides.{nat_tests}
-use Rattle.std.proofs.lemmas.Bool.{and_parts, eq-eqb, eqb-true}
+use Rattle.std.proofs.lemmas.Bool.{eq-eqb}
 use Rattle.std.proofs.lemmas.Option.{cond_some}
 use Rattle.paging.specs.Formats.{Format}
 use Rattle.paging.specs.Terms.{directory_level, store, table_level}
@@ -89,13 +89,8 @@ module _ (F : Format) (a : Asked) (t : SlotTable) (i : ℕ) where
 
 -- the flag of a store that passes
 pub store_flag : (k : ℕ) (b : Bool) → k ≡ store → passes k b ≡ true → b ≡ true
-store_flag k true e p = refl
-store_flag k false e p = rw (eq-eqb k store e) at p
+store_flag k b e p = grind (arith, nat_tests)
 
 -- a flag that is on for a store only lets the access pass
 pub own_flag : (k : ℕ) → passes k (eqb k store) ≡ true
-own_flag k = go (eqb k store)
-  where
-    go : (b : Bool) → (not b || b) ≡ true
-    go true = refl
-    go false = refl
+own_flag k = grind (arith, nat_tests)

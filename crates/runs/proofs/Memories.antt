@@ -1,12 +1,13 @@
 -- Which words memory has after writes, and that marks only raise them.
-use Rattle.std.proofs.Common.{◌≡◌, ℕ, ◌%◌, ◌<◌, true, false, cond, ◌&&◌, eqb, List, [], ◌∷◌, ◌++◌, sym, refl, ap, ◌∙◌, mod-eq_of_lt}
+use Rattle.std.proofs.lemmas.Bool.Decides.{nat_tests}
+use Rattle.std.proofs.Common.{◌≡◌, ℕ, ◌%◌, ◌<◌, true, false, cond, ◌&&◌, eqb, List, [], ◌∷◌, ◌++◌, sym, refl, ap, ◌∙◌, mod-eq_of_lt, arith}
 use Rattle.std.proofs.lemmas.Bool.{cond-false, cond-true, eq-eqb, ne_eqb, or_parts}
 use Rattle.memory.specs.Memory.{Contents, Memory, cause, changed, frame_words, has_words, stored, words}
 use Rattle.paging.specs.Formats.{Format}
 use Rattle.walk.specs.Marking.{Write, put, put_all}
 use Rattle.runs.specs.Histories.{writes_to}
 use Rattle.runs.specs.Laws.{last_put, word_at, word_in}
-use Rattle.runs.proofs.Basics.{both_false, by_eq, by_eq₂}
+use Rattle.runs.proofs.Basics.{both_false, by_eq₂}
 use Rattle.runs.proofs.Moments.{SmallWrites}
 use Rattle.runs.proofs.Sound.{Raises, Up, more, same}
 
@@ -32,8 +33,7 @@ module _ (m : Memory) (f i w : ℕ) where
   word_stored_same h = rw (eq-eqb f f refl) (changed_same (m f) i w h)
 
   pub word_stored_other : (g j : ℕ) → i < 1024 → j < 1024 → ((f ≡ g) × (i ≡ j) → ⊥) → word_at (stored m f i w) g j ≡ word_at m g j
-  word_stored_other g j a b n =
-      by_eq g f (λ t. word_in (cond t (changed (m g) i w) (m g)) j ≡ word_at m g j) (λ e. changed_other (m g) i j w a b (λ p. n (sym e, p))) (λ e. refl)
+  word_stored_other g j a b n = grind (arith, nat_tests, changed_other)
 
   -- in either case
   word_stored : (g j : ℕ) → has_words (m g) ≡ true → i < 1024 → j < 1024 → word_at (stored m f i w) g j ≡ cond (eqb f g && eqb i j) w (word_at m g j)

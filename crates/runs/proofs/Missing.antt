@@ -7,7 +7,7 @@ use Rattle.paging.specs.Terms.{directory_level, store}
 use Rattle.policies.specs.Orders.{OrdersKept, Rule}
 use Rattle.walk.specs.Marking.{Write, due, put_all}
 use Rattle.walk.specs.Walk.{Asked, Seen, directory_index, reached, table_index, walk_from, word_index}
-use Rattle.hits.specs.Hits.{copied_at, copied_words, hit_of, hits, number_limit}
+use Rattle.hits.specs.Hits.{copied_at, hits, number_limit}
 use Rattle.hits.specs.declared.hits.Copied.{Copied}
 use Rattle.shadow.specs.Slots.{find_slot, is_directory, place_at, put_place, shadow_at}
 use Rattle.slot.specs.Slot.{is_directory_of, shadows}
@@ -57,8 +57,7 @@ root_slot_is F m t q fit root i e = go (find_slot (thing.Directory root) t) refl
 -- like accesses hit alike
 hit_same : (F : Format) (a b : Asked) (c : Option Copied) → a.kind ≡ b.kind → a.privilege ≡ b.privilege → hit_by F b c ≡ hit_by F a c
 hit_same F a b None k v = refl
-hit_same F a b (Some c) k v =
-    ap (λ (x : ℕ). hit_of F x b.privilege (copied_words c) c.aim c.writable) (sym k) ∙ ap (λ (x : ℕ). hit_of F a.kind x (copied_words c) c.aim c.writable) (sym v)
+hit_same F a b (Some c) k v = rw (k, v)
 
 pub hit_alike : (F : Format) (a b : Asked) (i : ℕ) (t : SlotTable) → a.kind ≡ b.kind → page_of a.address ≡ page_of b.address → a.privilege ≡ b.privilege
     → hit_by F b (copied_at i (directory_index b.address) (table_index b.address) t) ≡ hit_by F a (copied_at i (directory_index a.address) (table_index a.address) t)

@@ -258,11 +258,7 @@ module _ (r : Option ℕ) (t : SlotTable) (i : ℕ) where
   permitted_if h e = permitted_at h ∙ e
 
   pub permitted_says : get_or (permitted r t) i false ≡ true → may_take r t i ≡ true
-  permitted_says e = go (cases_lt i 8)
-    where
-      go : (i < 8) ⊎ (8 ≤ i) → may_take r t i ≡ true
-      go (inl h) = sym (permitted_at h) ∙ e
-      go (inr h) = cc (get_or_past (permitted r t) i false h)
+  permitted_says e = grind (arith, permitted_at, get_or_past (permitted r t) i false)
 
 -- FILLING AND PUTTING
 
@@ -373,11 +369,7 @@ roomy_fresh n = record {
 -- COUNTS
 
 pub count_check : (i : ℕ) (ws : List ℕ) (t : SlotTable) → (check_table i ws t).count ≡ t.count
-count_check i ws t = go (shadow_at i t)
-  where
-    go : (x : Shadow) → (check_as i ws t x).count ≡ t.count
-    go (Table f y) = refl
-    go x = refl
+count_check i ws t = grind (arith, nat_tests)
 
 pub count_resync : (m : Memory) (i : ℕ) (t : SlotTable) → (resync m i t).count ≡ t.count
 unfolding resync

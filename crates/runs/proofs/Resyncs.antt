@@ -1,4 +1,5 @@
 -- Checking unsynchronised tables keeps slots fit.
+use Rattle.std.proofs.lemmas.Bool.Decides.{nat_tests}
 use Rattle.std.proofs.Common.{◌≡◌, ℕ, ◌+◌, ◌<◌, false, cond, List, [], ◌∷◌, sym, refl, ap, ◌∙◌, subst, arith}
 use Rattle.std.proofs.lemmas.Bool.{eq-eqb}
 use Rattle.memory.specs.Memory.{Memory}
@@ -57,9 +58,7 @@ module _ (m : Memory) (i f : ℕ) (v : View) where
 
   pub check_vacant : v.sh i ≡ Table f Unsynchronised → (k : ℕ) → v.sh k ≡ Nothing → (v_check m i f v).sh k ≡ Nothing
   unfolding v_check v_guard
-  check_vacant at k e =
-      by_eq k i (λ b. cond b (Table f Protected) (v.sh k) ≡ Nothing)
-      (λ q. cc) (λ n. e)
+  check_vacant at k e = grind (arith, nat_tests)
 
 module _ (F : Format) (m : Memory) where
   pub record Resynced (t : SlotTable) (q : List ℕ) (i : ℕ) (n : SlotTable) : Type 0 where
@@ -91,11 +90,7 @@ module _ (F : Format) (m : Memory) where
 
   -- a slot that is in step stays so
   pub calm_kept : {t n : SlotTable} → Turned t n → (k : ℕ) → lags (shadow_at k t) ≡ false → lags (shadow_at k n) ≡ false
-  calm_kept {t} {n} u k e = go (shadow_at k n) refl
-    where
-      go : (x : Shadow) → shadow_at k n ≡ x → lags (shadow_at k n) ≡ false
-      go (Table f Unsynchronised) q = cc (u.fewer.lagging k f q)
-      go x q = ap lags q
+  calm_kept {t} {n} u k e = grind (arith, nat_tests, u.fewer.lagging k)
 
   -- all of a list are checked in turn
   pub record AllCalm (t : SlotTable) (q : List ℕ) (n : SlotTable) : Type 0 where

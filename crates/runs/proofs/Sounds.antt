@@ -1,7 +1,7 @@
 -- Each operation on a view keeps it sound.
 use Rattle.std.proofs.Common.{◌≡◌, ℕ, ◌+◌, ◌<◌, ◌≤◌, Bool, true, false, cond, ◌&&◌, eqb, ◌⊎◌, sym, refl, ap, ◌∙◌, subst, inl, inr, arith}
 use mathlib.Core.Path.{fun_ext}
-use Rattle.std.proofs.lemmas.Bool.{and_parts, and_right, cases_eq, cases_lt, eq-eqb, eqb-true, ne_eqb}
+use Rattle.std.proofs.lemmas.Bool.{and_parts, and_right, cases_eq, eq-eqb, eqb-true, ne_eqb}
 use Rattle.memory.specs.Memory.{Memory, has_words, stored}
 use Rattle.paging.specs.Formats.{Format}
 use Rattle.slot.specs.Slot.{check_place, copies, flag_off, is_directory_of, is_split_of, is_table_of, shadow_of, shadows, unlink_place, with_sync}
@@ -136,11 +136,7 @@ module _ (F : Format) (m : Memory) (v : View) where
 
 module _ (F : Format) (m : Memory) (v : View) (sound : Sound F m v) where
   inside : (i j : ℕ) → (v.pl i j ≡ Empty → ⊥) → j < 1024
-  inside i j stands = go (cases_lt j 1024)
-    where
-      go : (j < 1024) ⊎ (1024 ≤ j) → j < 1024
-      go (inl h) = h
-      go (inr h) = absurd (stands (sound.framed.within i j h))
+  inside i j stands = grind (arith, sound.framed.within i j)
 
   pub sound_raise : (n : Memory) → Raises F m n → Sound F n v
   sound_raise n ra = sound_by (framed_alike F m n v v sound.framed ra.has (λ k. as_is) (λ i j. kept)

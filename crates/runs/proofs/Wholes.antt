@@ -4,16 +4,14 @@ use Rattle.std.proofs.lemmas.Bool.{cond-true, cond_both}
 use Rattle.std.proofs.lemmas.Bool.Decides.{nat_tests}
 use Rattle.memory.specs.Memory.{has_words, stored}
 use Rattle.paging.specs.Formats.{Format, LawsOfMarking}
-use Rattle.paging.specs.Terms.{store}
 use Rattle.policies.specs.Orders.{OrdersKept, Rule}
-use Rattle.walk.specs.Walk.{Asked, Outcome, faulted, reached, table_index, walk_from, word_index}
-use Rattle.shadow.specs.Slots.{is_directory, is_protected}
+use Rattle.walk.specs.Walk.{Asked, Outcome, faulted, reached, walk_from}
 use Rattle.shadow.specs.declared.slots.SlotTable.{SlotTable}
 use Rattle.runs.specs.Histories.{History, Opening}
 use Rattle.runs.specs.Laws.{LawfulFrom, UnlessClosed, after_call}
 use Rattle.runs.specs.Runs.{AddsUp, RefusalsKeep, Run, RunsLawful, RunsToCloseLawful, TalliesAddUp, goes, opened, replies, replies_to_close}
-use Rattle.runs.specs.Terms.{Call, Reply, Tallies, access, close_run, closed, deliver, done, flush, flush_all, flush_page, give_up, hidden, no_exit, open_run, poke, refused, set_mode, switch, switch_root, true_exit}
-use Rattle.runs.specs.Unit.{Ended, Running, State, Traced, access_by, access_ends, asked_in, call_limit, counted, hit_target, in_run, is_pending, no_tallies, opened_at, out_of_run, refuse, step, step_in, store_traced, switch_ends, traced, unless_full, unless_pending, walk_ends}
+use Rattle.runs.specs.Terms.{Call, Reply, Tallies, access, close_run, closed, deliver, done, flush, flush_all, flush_page, give_up, no_exit, open_run, poke, refused, set_mode, switch, switch_root, true_exit}
+use Rattle.runs.specs.Unit.{Ended, Running, State, access_by, access_ends, asked_in, call_limit, counted, hit_target, in_run, is_pending, no_tallies, opened_at, out_of_run, refuse, step, step_in, store_traced, switch_ends, traced, unless_full, unless_pending, walk_ends}
 use Rattle.runs.proofs.RunsGood.{law_of}
 
 -- WHAT A CALL CAN END IN
@@ -28,19 +26,7 @@ pub data Ends (s : State) (r : Running) : Ended → Type 0 where
 
 -- the exit of an access that walked
 exit_small : (a : Asked) (k f : ℕ) (t : SlotTable) → (traced a k f t).exit < 6
-exit_small a k f t = go (eqb a.kind store)
-  where
-    tests : (b c : Bool) (x y z : Traced) → x.exit < 6 → y.exit < 6 → z.exit < 6 → (cond {A = Traced} b x (cond c y z)).exit < 6
-    tests true c x y z p q r = p
-    tests false true x y z p q r = q
-    tests false false x y z p q r = r
-
-    stored : (s j i : ℕ) → (store_traced s j f i t).exit < 6
-    stored s j i = unfold store_traced in tests (is_directory f t) (is_protected f t) _ _ _ (omega arith) (omega arith) (omega arith)
-
-    go : (b : Bool) → (cond {A = Traced} b (store_traced k (table_index a.address) f (word_index a.address) t) (record { table = t; exit = hidden })).exit < 6
-    go true = stored k (table_index a.address) (word_index a.address)
-    go false = omega arith
+exit_small a k f t = unfold store_traced in grind (arith, nat_tests)
 
 module _ (F : Format) (R : Rule) (s : State) (r : Running) where
   walk_ending : (a : Asked) (w : ℕ) (x : Outcome) → Ends s r (walk_ends R F s r a w x)
