@@ -1,6 +1,6 @@
 -- An access that walks and comes through obeys the laws, and leaves the run good.
-use Rattle.std.proofs.Common.{◌≡◌, ℕ, ◌+◌, ◌<◌, ◌≤◌, Bool, true, false, cond, eqb, ◌⊎◌, List, [], ◌∷◌, is_some, Some, None, Option, unwrap_or, sym, refl, ap, ◌∙◌, subst, inl, inr, ⊎_elim, arith}
-use Rattle.std.proofs.lemmas.Bool.{cases_lt, eqb-true, lt-ltb, ne_eqb}
+use Rattle.std.proofs.Common.{◌≡◌, ℕ, ◌+◌, ◌<◌, Bool, true, false, cond, eqb, List, [], ◌∷◌, is_some, Some, None, Option, unwrap_or, sym, refl, ap, ◌∙◌, subst, ⊎_elim, arith}
+use Rattle.std.proofs.lemmas.Bool.{eqb-true, lt-ltb, ne_eqb}
 use Rattle.memory.specs.Memory.{Memory, has_words}
 use Rattle.paging.specs.Formats.{Format, LawsOfMarking}
 use Rattle.paging.specs.Terms.{directory_level, store}
@@ -153,11 +153,7 @@ module _ (F : Format) (a : Asked) (root f : ℕ) (n : Memory) where
       (st.splits s g (is_split_at g (shadow_at s t) q)) st.here (lt-ltb (g + table_index a.address) number_limit (fits (g + table_index a.address) (ap (λ (k : ℕ). has_words (n k)) y ∙ hf))) z)
     where
       fits : (k : ℕ) → has_words (n k) ≡ true → k < number_limit
-      fits k e = go (cases_lt k 4096)
-        where
-          go : (k < 4096) ⊎ (4096 ≤ k) → k < number_limit
-          go (inl l) = omega arith
-          go (inr l) = cc (e, bounded k l)
+      fits k e = grind (arith, bounded k)
 
 -- THE ACCESS
 

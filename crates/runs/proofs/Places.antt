@@ -58,18 +58,10 @@ all_same (suc n) (suc j) a = all_same n j a
 -- ENDS
 
 pub past_end : (t : SlotTable) (i j : ℕ) → Roomy t → 1024 ≤ j → place_at i j t ≡ Empty
-past_end t i j r h = go (cases_lt i 8)
-  where
-    go : (i < 8) ⊎ (8 ≤ i) → place_at i j t ≡ Empty
-    go (inl k) = get_or_past (get_or t.slots i no_slot).places j Empty (rw (r.places i k) h)
-    go (inr k) = ap (λ (s : Slot). get_or s.places j Empty) (get_or_past t.slots i no_slot (rw r.slots k))
+past_end t i j r h = grind (arith, get_or_past t.slots i no_slot, get_or_past (get_or t.slots i no_slot).places j Empty, r.places i, r.slots)
 
 pub small_slot : (t : SlotTable) (i : ℕ) → Roomy t → is_nothing (shadow_at i t) ≡ false → i < 8
-small_slot t i r e = go (cases_lt i 8)
-  where
-    go : (i < 8) ⊎ (8 ≤ i) → i < 8
-    go (inl k) = k
-    go (inr k) = cc (ap (λ (s : Slot). is_nothing s.shadow) (get_or_past t.slots i no_slot (rw r.slots k)))
+small_slot t i r e = grind (arith, get_or_past t.slots i no_slot, r.slots)
 
 -- GUARDING
 
@@ -195,16 +187,10 @@ module _ (p : ℕ → Slot → Bool) where
 -- searches that ask only what a slot shadows
 module _ (q : Shadow → Bool) (t : SlotTable) where
   slot_found : (i : ℕ) → first_from (λ k s. q s.shadow) 0 t.slots ≡ Some i → (q (shadow_at i t) ≡ true) × (i < length t.slots)
-  slot_found i e = let r = first_some (λ k s. q s.shadow) 0 t.slots i e in
-      let same : r.step ≡ i = omega (arith, r.number) in
-      (subst (λ (n : ℕ). q (shadow_at n t) ≡ true) same r.passes, omega (arith, r.inside))
+  slot_found i e = grind (arith, first_some (λ k s. q s.shadow) 0 t.slots i e)
 
   slot_missed : q Nothing ≡ false → first_from (λ k s. q s.shadow) 0 t.slots ≡ None → (k : ℕ) → q (shadow_at k t) ≡ false
-  slot_missed n e k = go (cases_lt k (length t.slots))
-    where
-      go : (k < length t.slots) ⊎ (length t.slots ≤ k) → q (shadow_at k t) ≡ false
-      go (inl h) = first_none (λ k s. q s.shadow) 0 t.slots e k k (omega arith) h
-      go (inr h) = ap (λ (s : Slot). q s.shadow) (get_or_past t.slots k no_slot h) ∙ n
+  slot_missed n e k = grind (arith, first_none (λ k s. q s.shadow) 0 t.slots e k k, get_or_past t.slots k no_slot)
 
   pub slot_some : is_some (first_from (λ k s. q s.shadow) 0 t.slots) ≡ true → (i : ℕ) × (q (shadow_at i t) ≡ true)
   slot_some = go (first_from (λ k s. q s.shadow) 0 t.slots) refl

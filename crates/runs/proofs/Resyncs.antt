@@ -6,7 +6,7 @@ use Rattle.memory.specs.Memory.{Memory}
 use Rattle.paging.specs.Formats.{Format}
 use Rattle.policies.specs.Orders.{numbered, times}
 use Rattle.shadow.specs.Slots.{shadow_at}
-use Rattle.slot.specs.Slot.{is_nothing, lags, shadows}
+use Rattle.slot.specs.Slot.{lags, shadows}
 use Rattle.slot.specs.declared.slots.Shadow.{Shadow}
 use Rattle.slot.specs.declared.slots.Shadow.TheVariants.{Nothing, Directory, Table}
 use Rattle.shadow.specs.declared.slots.SlotTable.{SlotTable}
@@ -121,8 +121,4 @@ module _ (F : Format) (m : Memory) where
 
   -- after a check of all, every table is in step
   pub all_calm : (t : SlotTable) (q : List ℕ) → Fit F m t q → (k : ℕ) → lags (shadow_at k (resync_all m t)) ≡ false
-  all_calm t q fit k = go (shadow_at k (resync_all m t)) refl
-    where
-      go : (x : Shadow) → shadow_at k (resync_all m t) ≡ x → lags (shadow_at k (resync_all m t)) ≡ false
-      go (Table f y) e = in_calm k eight t q fit (rising_holds 0 8 k (omega arith) (small_slot (resync_all m t) k (each eight t q fit).fit.roomy (ap is_nothing e)))
-      go x e = ap lags e
+  all_calm t q fit k = grind (arith, in_calm k eight t q fit, rising_holds 0 8 k, small_slot (resync_all m t) k (each eight t q fit).fit.roomy)

@@ -1,6 +1,7 @@
 -- What tests of a shadow say, what shadows a thing, and what a directory's word names.
-use Rattle.std.proofs.Common.{◌≡◌, ℕ, Bool, true, false, cond, eqb, sym, refl, ap, ◌∙◌}
-use Rattle.std.proofs.lemmas.Bool.{and_parts, eq-eqb, eqb-true, false_from_ne_true}
+use Rattle.std.proofs.lemmas.Bool.Decides.{nat_tests}
+use Rattle.std.proofs.Common.{◌≡◌, ℕ, Bool, true, false, cond, sym, refl, ap, ◌∙◌, arith}
+use Rattle.std.proofs.lemmas.Bool.{eq-eqb, eqb-true}
 use Rattle.memory.specs.Answers.{Answer}
 use Rattle.paging.specs.Terms.{is_table}
 use Rattle.slot.specs.Slot.{is_directory_of, is_nothing, is_split_of, is_table_of, lags, protects, shadow_of, shadows, with_sync}
@@ -16,20 +17,17 @@ use Rattle.runs.proofs.Sound.{guards}
 -- TESTS
 
 pub is_nothing_at : (x : Shadow) → is_nothing x ≡ true → x ≡ Nothing
-is_nothing_at Nothing e = refl
-is_nothing_at x e = cc
+is_nothing_at x e = grind (arith, nat_tests)
 
 pub is_directory_at : (f : ℕ) (x : Shadow) → is_directory_of f x ≡ true → x ≡ Directory f
-is_directory_at f (Directory g) e = ap Directory (eqb-true g f e)
-is_directory_at f x e = cc
+is_directory_at f x e = grind (arith, nat_tests)
 
 pub is_table_at : (f : ℕ) (x : Shadow) → is_table_of f x ≡ true → (y : SyncState) × (x ≡ Table f y)
 is_table_at f (Table g y) e = (y, ap (λ (n : ℕ). Table n y) (eqb-true g f e))
 is_table_at f x e = absurd cc
 
 pub is_split_at : (f : ℕ) (x : Shadow) → is_split_of f x ≡ true → x ≡ Split f
-is_split_at f (Split g) e = ap Split (eqb-true g f e)
-is_split_at f x e = cc
+is_split_at f x e = grind (arith, nat_tests)
 
 pub directory_here : (f : ℕ) → is_directory_of f (Directory f) ≡ true
 directory_here f = eq-eqb f f refl
@@ -43,41 +41,31 @@ table_here f y = eq-eqb f f refl
 
 -- what protects a frame is a protected table of it
 pub protected_table : (f : ℕ) (x : Shadow) → protects f x ≡ true → x ≡ Table f Protected
-protected_table f (Table g Protected) e = ap (λ (n : ℕ). Table n Protected) (eqb-true g f (and_parts (eqb g f) true e).0)
-protected_table f (Table g Unsynchronised) e = cc (and_parts (eqb g f) false e).1
-protected_table f x e = cc
+protected_table f x e = grind (arith, nat_tests)
 
 -- a frame that no directory and no protected table shadows is not guarded
 pub unguarded : (f : ℕ) (x : Shadow) → is_directory_of f x ≡ false → protects f x ≡ false → guards f x ≡ false
-unguarded f (Directory g) p q = p
-unguarded f (Table g Protected) p q = false_from_ne_true (eqb g f) (λ e. cc)
-unguarded f x p q = refl
+unguarded f x p q = grind (arith, nat_tests)
 
 -- THINGS
 
 pub nothing_shadows : (x : Thing) → shadows Nothing x ≡ false
-nothing_shadows (thing.Directory f) = refl
-nothing_shadows x = refl
+nothing_shadows x = grind (arith, nat_tests)
 
 -- what a slot shadows that was perhaps emptied, it shadowed
 pub emptied_shadows : (b : Bool) (x : Shadow) (t : Thing) → shadows (cond b Nothing x) t ≡ true → shadows x t ≡ true
-emptied_shadows true x t e = cc (nothing_shadows t)
-emptied_shadows false x t e = e
+emptied_shadows b x t e = grind (arith, nat_tests, nothing_shadows t)
 
 -- what shadows a thing is not nothing
 pub filled : (x : Shadow) (t : Thing) → shadows x t ≡ true → is_nothing x ≡ false
-filled Nothing t e = cc (nothing_shadows t)
-filled x t e = refl
+filled x t e = grind (arith, nat_tests, nothing_shadows t)
 
 -- how a slot shadows a thing at first
 pub new_shadows : (x : Thing) → shadows (shadow_of x) x ≡ true
-new_shadows (thing.Directory f) = eq-eqb f f refl
-new_shadows (thing.Table f) = eq-eqb f f refl
-new_shadows (thing.Split f) = eq-eqb f f refl
+new_shadows x = grind (arith, nat_tests)
 
 pub new_calm : (x : Thing) → lags (shadow_of x) ≡ false
-new_calm (thing.Directory f) = refl
-new_calm x = refl
+new_calm x = grind (arith, nat_tests)
 
 -- no unsynchronised table is in step
 pub calm_no_table : {A : Type 0} {x : Shadow} {f : ℕ} → lags x ≡ false → x ≡ Table f Unsynchronised → A
@@ -87,15 +75,11 @@ pub new_protected : (x : Thing) (f : ℕ) → shadow_of x ≡ Table f Unsynchron
 new_protected x f e = cc (new_calm x)
 
 pub new_directory : (x : Thing) (f : ℕ) → shadow_of x ≡ Directory f → x ≡ thing.Directory f
-new_directory (thing.Directory g) f e = let z : g ≡ f = cc in ap thing.Directory z
-new_directory x f e = cc
+new_directory x f e = grind (arith, nat_tests)
 
 -- it is of that thing alone
 pub new_only : (x y : Thing) → shadows (shadow_of x) y ≡ true → x ≡ y
-new_only (thing.Directory f) (thing.Directory g) e = ap thing.Directory (eqb-true f g e)
-new_only (thing.Table f) (thing.Table g) e = ap thing.Table (eqb-true f g e)
-new_only (thing.Split f) (thing.Split g) e = ap thing.Split (eqb-true f g e)
-new_only x y e = cc
+new_only x y e = grind (arith, nat_tests)
 
 -- WHAT A WORD NAMES
 

@@ -1,4 +1,5 @@
 -- Each operation on a view keeps it sound.
+use Rattle.std.proofs.lemmas.Bool.Decides.{nat_tests}
 use Rattle.std.proofs.Common.{◌≡◌, ℕ, ◌+◌, ◌<◌, ◌≤◌, Bool, true, false, cond, ◌&&◌, eqb, ◌⊎◌, sym, refl, ap, ◌∙◌, subst, inl, inr, arith}
 use mathlib.Core.Path.{fun_ext}
 use Rattle.std.proofs.lemmas.Bool.{and_parts, and_right, cases_eq, eq-eqb, eqb-true, ne_eqb}
@@ -208,8 +209,7 @@ module _ (F : Format) (m : Memory) (v : View) (sound : Sound F m v) where
 
         -- an unsynchronised table was one, or is the table of g
         table_of : (i f : ℕ) → cond (eqb i k) (with_sync Unsynchronised (v.sh i)) (v.sh i) ≡ Table f Unsynchronised → (v.sh i ≡ Table f Unsynchronised) ⊎ (f ≡ g)
-        table_of i f = by_eq i k (λ b. cond b (with_sync Unsynchronised (v.sh i)) (v.sh i) ≡ Table f Unsynchronised → (v.sh i ≡ Table f Unsynchronised) ⊎ (f ≡ g))
-            (λ q e. inr (cc (ap (λ n. with_sync Unsynchronised (v.sh n)) q ∙ ap (with_sync Unsynchronised) at, e))) (λ q e. inl e)
+        table_of i f = grind (arith, nat_tests)
 
         not_both : (n f : ℕ) → {i : ℕ} → (v.sh i ≡ Table f Unsynchronised) ⊎ (f ≡ g) → v.sh n ≡ Directory f → ⊥
         not_both n f (inl e) d = sound.framed.apart _ n f e d
@@ -296,9 +296,7 @@ pub checked_alike : (m : Memory) (i f : ℕ) (y : SyncState) (v : View) → v.sh
 checked_alike m i f y v at k = by_eq k i (λ b. Alike (cond b (Table f Protected) (v.sh k)) (v.sh k)) (λ q. subst (Alike (Table f Protected)) (sym (ap v.sh q ∙ at)) state) (λ q. as_is)
 
 check_word : (w : ℕ) (p : Place) (x a : ℕ) (b : Bool) → check_place w p ≡ Leaf x a b → x ≡ w
-check_word w (Leaf v f c) x a b e =
-    by_eq v w (λ t. cond t (Leaf v f c) Empty ≡ Leaf x a b → x ≡ w) (λ p q. let z : v ≡ x = cc in sym z ∙ p) (λ p q. cc) e
-check_word w p x a b e = cc
+check_word w p x a b e = grind (arith, nat_tests)
 
 module _ (F : Format) (m : Memory) (v : View) (sound : Sound F m v) where
   pub sound_check : (i f : ℕ) (y : SyncState) → v.sh i ≡ Table f y → Sound F m (v_check m i f v)
@@ -333,8 +331,7 @@ module _ (F : Format) (m : Memory) (v : View) (sound : Sound F m v) where
 
 -- no link to slot i is left
 unlinked : (i w s : ℕ) (p : Place) → unlink_place i p ≡ Link w s → s ≡ i → ⊥
-unlinked i w s (Link x t) e q = by_eq t i (λ b. cond b Empty (Link x t) ≡ Link w s → ⊥) (λ z d. cc) (λ z d. let y : t ≡ s = cc in z (y ∙ q)) e
-unlinked i w s p e q = cc
+unlinked i w s p e q = grind (arith, nat_tests)
 
 module _ (F : Format) (m : Memory) (v : View) (sound : Sound F m v) where
   -- slot i is made new with all its places empty, and no link names it
@@ -365,11 +362,7 @@ module _ (F : Format) (m : Memory) (v : View) (sound : Sound F m v) where
   -- where slot i is made new and the other places only lost something, the flags that are left were there
   opens_anew : (i : ℕ) (x : Shadow) (p : ℕ → ℕ → Place) → ((k j : ℕ) → Less (p k j) (v.pl k j)) → (k j g l : ℕ)
       → opens j (cond (eqb k i) x (v.sh k)) g (cond (eqb k i) Empty (p k j)) ≡ true → guards g x ≡ false → guards g (cond (eqb l i) x (v.sh l)) ≡ false
-  opens_anew i x p less k j g l e free = elim (eqb l i) as (λ b. guards g (cond b x (v.sh l)) ≡ false) [ true ↦ free | false ↦ sound.shut k j g l (was (eqb k i) e) ]
-    where
-      was : (b : Bool) → opens j (cond b x (v.sh k)) g (cond b Empty (p k j)) ≡ true → opens j (v.sh k) g (v.pl k j) ≡ true
-      was true d = cc
-      was false d = less_opens (less k j) j (v.sh k) g d
+  opens_anew i x p less k j g l e free = grind (arith, nat_tests, sound.shut k j g l, less_opens (less k j) j (v.sh k) g)
 
   pub sound_evict : (i : ℕ) → Sound F m (v_evict i v)
   unfolding v_evict

@@ -1,6 +1,7 @@
 -- Finding or taking the slot of a thing keeps slots fit.
+use Rattle.std.proofs.lemmas.Bool.Decides.{nat_tests}
 use Rattle.std.proofs.Common.{◌≡◌, ℕ, ◌<◌, Bool, true, false, cond, not, ◌&&◌, eqb, ltb, ◌⊎◌, List, Some, None, Option, sym, refl, ap, ◌∙◌, subst, inl, inr, arith}
-use Rattle.std.proofs.lemmas.Bool.{and_parts, eq-eqb, false_from_ne_true, lt-ltb, ltb-true, not-true}
+use Rattle.std.proofs.lemmas.Bool.{and_parts, eq-eqb, false_from_ne_true, lt-ltb, ltb-true}
 use Rattle.memory.specs.Memory.{Memory, has_words}
 use Rattle.paging.specs.Formats.{Format}
 use Rattle.policies.specs.Orders.{OrdersKept, Rule, first_permitted, times}
@@ -90,12 +91,7 @@ module _ (F : Format) (R : Rule) (kept_order : OrdersKept R) (m : Memory) where
           (y.0, y.1, z.1)
 
       stays : (root k : ℕ) → kept ≡ Some root → shadow_at k t ≡ Directory root → cond (eqb k i) Nothing (shadow_at k t) ≡ Directory root
-      stays root k z w = by_eq k i (λ b. cond b Nothing (shadow_at k t) ≡ Directory root)
-          (λ p.
-          let here : shadow_at i t ≡ Directory root = sym (ap (λ (n : ℕ). shadow_at n t) p) ∙ w in
-          let u : is_root (shadow_at i t) kept ≡ true = ap (is_root (shadow_at i t)) z ∙ ap (is_directory_of root) here ∙ directory_here root in
-          cc (u, not-true (is_root (shadow_at i t) kept) parts.2))
-          (λ n. w)
+      stays root k z w = grind (arith, nat_tests)
 
   -- where all slots are filled, one may be taken
   abbrev pub Free : Option ℕ → SlotTable → Type 0
@@ -241,9 +237,7 @@ module _ (F : Format) (R : Rule) (kept_order : OrdersKept R) (m : Memory) where
           (λ p e. inl (is_directory_at f (shadow_at i t) (r.were i (thing.Directory f) (ap (is_directory_of f) ((turned_directory d.turned i f).0 e) ∙ directory_here f))))
 
       keeps : (root i : ℕ) → shadow_at i k.table ≡ Directory root → cond (eqb i k.slot) (shadow_of x) (shadow_at i (ready_for m x k.table)) ≡ Directory root
-      keeps root i e = by_eq i k.slot (λ b. cond b (shadow_of x) (shadow_at i (ready_for m x k.table)) ≡ Directory root)
-          (λ p. cc (r.vacant, ap (λ (j : ℕ). shadow_at j k.table) p))
-          (λ p. (turned_directory d.turned i root).1 e)
+      keeps root i e = grind (arith, nat_tests, r.vacant, turned_directory d.turned i root)
 
   pub took : (kept : Option ℕ) (x : Thing) (t : SlotTable) (q : List ℕ) → Fit F m t q → NoneOf x t → HasFrame m x → (first_empty t ≡ None → Free kept t) → Got kept x t (take_slot R m kept x t q)
   unfolding take_slot

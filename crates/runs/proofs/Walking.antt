@@ -1,6 +1,7 @@
 -- A walk over words that were only marked since they were copied goes as the copies say, and its marks settle its entries.
+use Rattle.std.proofs.lemmas.Bool.Decides.{nat_tests}
 use Rattle.std.proofs.Common.{◌≡◌, ℕ, ◌+◌, ◌<◌, Bool, true, false, cond, eqb, List, [], ◌∷◌, ◌++◌, sym, refl, ap, ◌∙◌, arith}
-use Rattle.std.proofs.lemmas.Bool.{eq-eqb, eqb-true}
+use Rattle.std.proofs.lemmas.Bool.{eqb-true}
 use Rattle.memory.specs.Memory.{Contents, Memory, words, cause, has_words}
 use Rattle.paging.specs.Formats.{Format, LawsOfMarking}
 use Rattle.paging.specs.Terms.{because_absent, because_denied, because_malformed, directory_level, is_absent, is_page, is_table, table_level}
@@ -64,8 +65,7 @@ known (cause c) e = cc
 
 -- a settled entry is not written
 unmarked : (F : Format) (k : ℕ) (s : Spot) (x : Contents) → F.marks s.level k (word_in x s.index) ≡ word_in x s.index → mark_of F k s x ≡ []
-unmarked F k s (words w) e = rw (eq-eqb _ _ e)
-unmarked F k s (cause c) e = refl
+unmarked F k s x e = grind (arith, nat_tests)
 
 -- THE GUEST'S WALK BY WHAT THE WALK REACHES
 

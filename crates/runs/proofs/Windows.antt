@@ -1,5 +1,6 @@
 -- What a word was raised from in a window it is still raised from, where no store went there; memory has the last word written.
-use Rattle.std.proofs.Common.{◌≡◌, ℕ, ◌/◌, ◌%◌, ◌^◌, ◌<◌, Bool, true, false, cond, eqb, List, [], ◌∷◌, sym, refl, ap, ◌∙◌, subst, mod-lt, lit<}
+use Rattle.std.proofs.lemmas.Bool.Decides.{nat_tests}
+use Rattle.std.proofs.Common.{◌≡◌, ℕ, ◌/◌, ◌%◌, ◌^◌, ◌<◌, Bool, true, false, cond, eqb, List, [], ◌∷◌, sym, refl, ap, ◌∙◌, subst, mod-lt, lit<, arith}
 use Rattle.std.proofs.lemmas.Bool.{cond-false, or_parts}
 use Rattle.memory.specs.Memory.{Memory, frame_words, has_words}
 use Rattle.paging.specs.Formats.{Format}
@@ -66,8 +67,7 @@ small_stores e = tt
 
 -- an event with marks covers no page
 marks_uncovered : (e : Event) (p : ℕ) {x : Write} {xs : List Write} → marks_in e ≡ x ∷ xs → covers e p ≡ false
-marks_uncovered (went a w r) p m = refl
-marks_uncovered e p m = cc
+marks_uncovered e p m = grind (arith, nat_tests)
 
 -- the window goes on through an event that does not cover the page: neither its store nor one before went there
 unstored : (f i p : ℕ) (e : Event) (h : History) → covers e p ≡ false → stored_since f i p (e ∷ h) ≡ false → (writes_to f i (stores_in e) ≡ false) × (stored_since f i p h ≡ false)
