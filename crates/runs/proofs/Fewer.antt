@@ -1,5 +1,6 @@
 -- Slots that hold no more than others did: their links, their unsynchronised tables and their leaves, flags aside, were there.
-use Rattle.std.proofs.Common.{◌≡◌, ℕ, Bool, true, false, cond, ◌&&◌, eqb}
+use Rattle.std.proofs.lemmas.Bool.Decides.{nat_tests}
+use Rattle.std.proofs.Common.{◌≡◌, ℕ, Bool, cond, ◌&&◌, eqb, arith}
 use Rattle.memory.specs.Memory.{Memory}
 use Rattle.slot.specs.Slot.{copies, shadow_of}
 use Rattle.slot.specs.declared.slots.Place.{Place}
@@ -66,8 +67,7 @@ module _ (i : ℕ) (v : View) where
     where
       -- the slot that is filled has no link
       roots : (t : Bool) (p : Place) (y : Shadow) (w s r : ℕ) → cond t Empty p ≡ Link w s → cond t (shadow_of x) y ≡ Directory r → y ≡ Directory r
-      roots true p y w s r e q = cc
-      roots false p y w s r e q = q
+      roots t p y w s r e q = grind (arith, nat_tests)
 
   pub fewer_drop : (j : ℕ) → Fewer v (v_drop i j v)
   unfolding v_drop

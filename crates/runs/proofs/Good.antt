@@ -1,7 +1,7 @@
 -- What holds of a run at every point: between calls the slots are true to guest memory, and what they hold of the past had its
 -- moment.
-use Rattle.std.proofs.Common.{◌≡◌, ℕ, zero, suc, ◌+◌, ◌<◌, ◌≤◌, Bool, true, List, is_some, sym, subst, ⊎_elim, arith}
-use Rattle.std.proofs.lemmas.Bool.{cases_eq, eq-eqb, ne_eqb}
+use Rattle.std.proofs.lemmas.Bool.Decides.{nat_tests}
+use Rattle.std.proofs.Common.{◌≡◌, ℕ, zero, suc, ◌+◌, ◌<◌, ◌≤◌, Bool, true, List, is_some, sym, subst, arith}
 use Rattle.memory.specs.Memory.{Memory}
 use Rattle.paging.specs.Formats.{Format}
 use Rattle.policies.specs.Orders.{rising, times}
@@ -23,11 +23,7 @@ use Rattle.runs.proofs.Views.{Roomy, View, view}
 -- each number of a rising order stands in it
 pub rising_holds : (a k i : ℕ) → a ≤ i → i < a + k → 0 < times i (rising a k)
 rising_holds a zero i l u = absurd (omega arith)
-rising_holds a (suc k) i l u =
-    ⊎_elim
-    (λ e. rw (eq-eqb a i e) (omega arith))
-    (λ n. rw (ne_eqb a i n) (let v = rising_holds (suc a) k i (let w : a ≤ i = l in omega arith) (omega arith) in omega arith))
-    (cases_eq a i)
+rising_holds a (suc k) i l u = grind (arith, nat_tests, rising_holds (suc a) k i)
 
 -- slots and an order that belong together, over a memory
 pub record Fit (F : Format) (m : Memory) (t : SlotTable) (q : List ℕ) : Type 0 where

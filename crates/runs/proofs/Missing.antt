@@ -1,6 +1,6 @@
 -- An access that walks and comes through obeys the laws, and leaves the run good.
 use Rattle.std.proofs.Common.{◌≡◌, ℕ, ◌+◌, ◌<◌, Bool, true, false, cond, eqb, List, [], ◌∷◌, is_some, Some, None, Option, unwrap_or, sym, refl, ap, ◌∙◌, subst, ⊎_elim, arith}
-use Rattle.std.proofs.lemmas.Bool.{eqb-true, lt-ltb, ne_eqb}
+use Rattle.std.proofs.lemmas.Bool.{eqb-true, lt-ltb, ne_eqb, false_from_ne_true}
 use Rattle.memory.specs.Memory.{Memory, has_words}
 use Rattle.paging.specs.Formats.{Format, LawsOfMarking}
 use Rattle.paging.specs.Terms.{directory_level, store}
@@ -268,14 +268,10 @@ module _ (F : Format) (laws : LawsOfMarking F) (R : Rule) (kept_order : OrdersKe
 
   -- a store to a frame that was never a root is to no directory's frame
   no_directory : NeverRoot o f h → is_directory f (put_place K.slot J p K.table) ≡ false
-  no_directory never = go (is_directory f (put_place K.slot J p K.table)) refl
-    where
-      go : (b : Bool) → is_directory f (put_place K.slot J p K.table) ≡ b → b ≡ false
-      go false e = refl
-      go true e =
-          let k = slot_some (is_directory_of f) (put_place K.slot J p K.table) e in
-          let at = is_directory_at f (shadow_at k.0 (put_place K.slot J p K.table)) k.1 in
-          absurd (good.were k.0 f (up.dirs k.0 f (sym (put_shadow F n root K.table K.order up.fit K.slot J f up.small (table_index_small a.address) target_has p new k.0) ∙ at)) never)
+  no_directory never = false_from_ne_true (is_directory f (put_place K.slot J p K.table)) (λ e.
+      let k = slot_some (is_directory_of f) (put_place K.slot J p K.table) e in
+      let at = is_directory_at f (shadow_at k.0 (put_place K.slot J p K.table)) k.1 in
+      good.were k.0 f (up.dirs k.0 f (sym (put_shadow F n root K.table K.order up.fit K.slot J f up.small (table_index_small a.address) target_has p new k.0) ∙ at)) never)
 
   hit_now : (a.kind ≡ store → NeverRoot o f h) → hit_by F a (copied_at I D J z.table) ≡ Some f
   hit_now free =

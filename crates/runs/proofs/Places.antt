@@ -3,7 +3,7 @@ use Rattle.std.proofs.Common.{◌≡◌, ℕ, zero, suc, ◌+◌, ◌-◌, ◌<�
 use lib.ListN
 use lib.ListN.{get_or-replicate, length-map, length-replicate}
 use Rattle.std.proofs.lemmas.List.{get_or-map, get_or_past, get_or-set_other, get_or-set_same}
-use Rattle.std.proofs.lemmas.Bool.{and_from, and_parts, cases_eq, cases_lt, eq-eqb, le-leb, leb-true, lt-ltb, ltb-true, ne_eqb}
+use Rattle.std.proofs.lemmas.Bool.{and_parts, cases_eq, cases_lt, eq-eqb, leb-true, lt-ltb, ltb-true, ne_eqb}
 use Rattle.std.proofs.lemmas.Bool.Decides.{nat_tests}
 use Rattle.memory.specs.Memory.{Memory}
 use Rattle.shadow.specs.Slots.{change_all, change_slot, check_as, check_table, drop_entry, evict, fill, find_slot, first_empty, first_from, flag_off_at, fresh, guard, is_free, may_take, permitted, place_at, put_place, set_sync, shadow_at}
@@ -80,16 +80,14 @@ module _ (f : ℕ) (s : Slot) where
       same : (g ≤ f) → eqb j (f - g) ≡ eqb (g + j) f
       same h = grind (arith, nat_tests)
 
-      outside : in_split f g ≡ false → (g + j < g + 1024) ⊎ (g + 1024 ≤ g + j) → (g + j ≡ f) ⊎ (g + j ≡ f → ⊥) → get_or s.places j Empty ≡ cond (eqb (g + j) f) (flag_off (get_or s.places j Empty)) (get_or s.places j Empty)
-      outside e c (inr n) = ap (λ b. cond b (flag_off (get_or s.places j Empty)) (get_or s.places j Empty)) (sym (ne_eqb (g + j) f n))
-      outside e (inl h) (inl q) = cc (and_from (leb g f) (ltb f (g + 1024)) (le-leb g f (omega arith)) (lt-ltb f (g + 1024) (omega arith)))
-      outside e (inr h) (inl q) = let none : get_or s.places j Empty ≡ Empty = past (omega arith) in none ∙ sym (ap (λ x. cond (eqb (g + j) f) (flag_off x) x) none ∙ stays)
+      outside : in_split f g ≡ false → get_or s.places j Empty ≡ cond (eqb (g + j) f) (flag_off (get_or s.places j Empty)) (get_or s.places j Empty)
+      outside e = grind (arith, nat_tests, past)
 
       go : (b : Bool) → in_split f g ≡ b → get_or (cond b (change_place (f - g) flag_off s) s).places j Empty ≡ cond (eqb (g + j) f) (flag_off (get_or s.places j Empty)) (get_or s.places j Empty)
       go true e =
           changed flag_off Empty refl s.places (f - g) j (λ b q. q ≡ cond b (flag_off (get_or s.places j Empty)) (get_or s.places j Empty)) refl refl
           ∙ ap (λ b. cond b (flag_off (get_or s.places j Empty)) (get_or s.places j Empty)) (same (leb-true g f (and_parts (leb g f) (ltb f (g + 1024)) e).0))
-      go false e = outside e (cases_lt (g + j) (g + 1024)) (cases_eq (g + j) f)
+      go false e = outside e
   guard_place j past x = refl
 
 -- a split guards the frames of its 1,024 places only
@@ -200,11 +198,7 @@ module _ (q : Shadow → Bool) (t : SlotTable) where
       go (Some i) e z = (i, (slot_found i e).0)
 
   pub slot_none : q Nothing ≡ false → is_some (first_from (λ k s. q s.shadow) 0 t.slots) ≡ false → (k : ℕ) → q (shadow_at k t) ≡ false
-  slot_none n = go (first_from (λ k s. q s.shadow) 0 t.slots) refl
-    where
-      go : (o : Option ℕ) → first_from (λ k s. q s.shadow) 0 t.slots ≡ o → is_some o ≡ false → (k : ℕ) → q (shadow_at k t) ≡ false
-      go None e z = slot_missed n e
-      go (Some i) e z = cc
+  slot_none n e k = grind (arith, slot_missed n, k)
 
 pub find_some : (x : Thing) (t : SlotTable) (i : ℕ) → Roomy t → find_slot x t ≡ Some i → (shadows (shadow_at i t) x ≡ true) × (i < 8)
 find_some x t i r e = let k = slot_found (λ y. shadows y x) t i e in (k.0, subst (λ (n : ℕ). i < n) r.slots k.1)

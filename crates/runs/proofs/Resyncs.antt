@@ -1,6 +1,6 @@
 -- Checking unsynchronised tables keeps slots fit.
 use Rattle.std.proofs.lemmas.Bool.Decides.{nat_tests}
-use Rattle.std.proofs.Common.{◌≡◌, ℕ, ◌+◌, ◌<◌, false, cond, List, [], ◌∷◌, sym, refl, ap, ◌∙◌, subst, arith}
+use Rattle.std.proofs.Common.{◌≡◌, ℕ, ◌<◌, false, List, [], ◌∷◌, sym, refl, ap, ◌∙◌, subst, arith}
 use Rattle.std.proofs.lemmas.Bool.{eq-eqb}
 use Rattle.memory.specs.Memory.{Memory}
 use Rattle.paging.specs.Formats.{Format}
@@ -14,7 +14,6 @@ use Rattle.slot.specs.declared.slots.SyncState.TheVariants.{Protected, Unsynchro
 use Rattle.slot.specs.declared.slots.Thing.{Thing}
 use Rattle.slot.specs.declared.slots.Thing.TheVariants as thing
 use Rattle.runs.specs.Unit.{resync, resync_all, resync_each}
-use Rattle.runs.proofs.Basics.{by_eq}
 use Rattle.runs.proofs.Fewer.{Fewer, fewer_check, fewer_same, fewer_trans}
 use Rattle.runs.proofs.Good.{Fit, refit, rising_holds}
 use Rattle.runs.proofs.Places.{count_resync, resync_checked, resync_kept, roomy_resync, small_slot}
@@ -115,9 +114,7 @@ module _ (F : Format) (m : Memory) where
 
   in_calm : (i : ℕ) (is : List ℕ) (t : SlotTable) (q : List ℕ) → Fit F m t q → 0 < times i is → lags (shadow_at i (resync_each m is t)) ≡ false
   in_calm i [] t q fit p = absurd (omega arith)
-  in_calm i (k ∷ is) t q fit p = by_eq k i (λ b. 0 < cond b 1 0 + times i is → lags (shadow_at i (resync_each m (k ∷ is) t)) ≡ false)
-      (λ e l. subst (λ (n : ℕ). lags (shadow_at n (resync_each m (k ∷ is) t)) ≡ false) e (first_calm k is t q fit))
-      (λ n l. in_calm i is (resync m k t) q (resynced t q k fit).fit (omega arith)) p
+  in_calm i (k ∷ is) t q fit p = grind (arith, nat_tests, first_calm k is t q fit, in_calm i is (resync m k t) q (resynced t q k fit).fit)
 
   -- after a check of all, every table is in step
   pub all_calm : (t : SlotTable) (q : List ℕ) → Fit F m t q → (k : ℕ) → lags (shadow_at k (resync_all m t)) ≡ false

@@ -2,7 +2,7 @@
 use Rattle.std.proofs.lemmas.Bool.Decides.{nat_tests}
 use Rattle.std.proofs.Common.{◌≡◌, ℕ, ◌+◌, ◌<◌, ◌≤◌, Bool, true, false, cond, ◌&&◌, eqb, ◌⊎◌, sym, refl, ap, ◌∙◌, subst, inl, inr, arith}
 use mathlib.Core.Path.{fun_ext}
-use Rattle.std.proofs.lemmas.Bool.{and_parts, and_right, cases_eq, eq-eqb, eqb-true, ne_eqb}
+use Rattle.std.proofs.lemmas.Bool.{and_parts, cases_eq, eq-eqb, eqb-true, ne_eqb}
 use Rattle.memory.specs.Memory.{Memory, has_words, stored}
 use Rattle.paging.specs.Formats.{Format}
 use Rattle.slot.specs.Slot.{check_place, copies, flag_off, is_directory_of, is_split_of, is_table_of, shadow_of, shadows, unlink_place, with_sync}
@@ -15,12 +15,12 @@ use Rattle.slot.specs.declared.slots.SyncState.TheVariants.{Protected, Unsynchro
 use Rattle.slot.specs.declared.slots.Thing.{Thing}
 use Rattle.slot.specs.declared.slots.Thing.TheVariants as thing
 use Rattle.runs.specs.Laws.{word_at}
-use Rattle.runs.proofs.Basics.{by_eq, by_eq₂, cond_other, elim_eq}
+use Rattle.runs.proofs.Basics.{by_eq, by_eq₂, cond_other}
 use Rattle.runs.proofs.Losses.{Less, checked_less, guard_at_less, kept, less_cond, less_empty, less_leaf, less_link, less_opens, less_piece, unlink_less}
 use Rattle.runs.proofs.Memories.{has_stored, up_trans, word_stored_other}
-use Rattle.runs.proofs.Shadows.{Alike, alike_directory, alike_shadows, alike_split, alike_sym, alike_table, as_is, emptied_shadows, new_only, new_protected, nothing_shadows, state, sync_alike, table_here}
+use Rattle.runs.proofs.Shadows.{Alike, alike_directory, alike_shadows, alike_split, alike_sym, alike_table, as_is, emptied_shadows, new_only, new_protected, nothing_shadows, state, sync_alike}
 use Rattle.runs.proofs.Sound.{Backed, Framed, Leads, Leafed, Linked, Pages, Pieced, Raises, Sound, Up, guards, named, opens, same}
-use Rattle.runs.proofs.Views.{View, guard_at, unlink_at, v_check, v_checked, v_drop, v_evict, v_fill, v_flag_off, v_guard, v_put, v_sync}
+use Rattle.runs.proofs.Views.{View, unlink_at, v_check, v_checked, v_drop, v_evict, v_fill, v_flag_off, v_guard, v_put, v_sync}
 
 -- WORDS OF THE GUEST
 
@@ -103,23 +103,7 @@ module _ (F : Format) (m : Memory) (v : View) where
 
   shut_framed : Framed F m v → (f i j : ℕ) → opens j ((v_guard f v).sh i) f ((v_guard f v).pl i j) ≡ false
   unfolding v_guard
-  shut_framed fr f i j = go (v.sh i) (v.pl i j) refl refl
-    where
-      -- a leaf stands in a table
-      leaf_in : (w a : ℕ) (b : Bool) → v.pl i j ≡ Leaf w a b → (x : Shadow) → v.sh i ≡ x → (t : Bool) → ((g : ℕ) (y : SyncState) → x ≡ Table g y → t ≡ false) → t ≡ false
-      leaf_in w a b q x p t h = let l = fr.leaves i j w a b q in h l.frame l.state (sym p ∙ l.is)
-
-      go : (x : Shadow) (p : Place) → v.sh i ≡ x → v.pl i j ≡ p → opens j x f (guard_at f j x p) ≡ false
-      go Nothing (Leaf w a b) e q = leaf_in w a b q Nothing e (b && eqb a f) (λ g y z. cc)
-      go (Directory r) (Leaf w a b) e q = leaf_in w a b q (Directory r) e (b && eqb a f) (λ g y z. cc)
-      go (Table g y) (Leaf w a b) e q =
-          elim_eq (eqb a f) (λ t. opens j (Table g y) f (cond t (Leaf w a false) (Leaf w a b)) ≡ false) (λ t. refl) (λ t. and_right b (eqb a f) t)
-      go (Split g) Empty e q = elim (eqb (g + j) f) as (λ t. opens j (Split g) f (cond t Empty Empty) ≡ false) [ true ↦ refl | false ↦ refl ]
-      go (Split g) (Link w s) e q = elim (eqb (g + j) f) as (λ t. opens j (Split g) f (cond t (Link w s) (Link w s)) ≡ false) [ true ↦ refl | false ↦ refl ]
-      go (Split g) (Leaf w a b) e q = leaf_in w a b q (Split g) e (opens j (Split g) f (guard_at f j (Split g) (Leaf w a b))) (λ h y z. cc)
-      go (Split g) (Piece b) e q =
-          elim_eq (eqb (g + j) f) (λ t. opens j (Split g) f (cond t (Piece false) (Piece b)) ≡ false) (λ t. refl) (λ t. and_right b (eqb (g + j) f) t)
-      go x p e q = refl
+  shut_framed fr f i j = grind (arith, nat_tests, fr.leaves i j)
 
   guard_framed : Framed F m v → (f : ℕ) → Framed F m (v_guard f v)
   unfolding v_guard
@@ -175,17 +159,7 @@ module _ (F : Format) (m : Memory) (v : View) (sound : Sound F m v) where
   module _ (k g : ℕ) (y : SyncState) (at : v.sh k ≡ Table g y) (none : (n : ℕ) → is_directory_of g (v.sh n) ≡ false) where
     pub unguarded_by_sync : (n : ℕ) → guards g ((v_sync k Unsynchronised v).sh n) ≡ false
     unfolding v_sync
-    unguarded_by_sync n = by_eq n k (λ b. guards g (cond b (with_sync Unsynchronised (v.sh n)) (v.sh n)) ≡ false)
-        (λ e. ap (λ i. guards g (with_sync Unsynchronised (v.sh i))) e ∙ ap (λ x. guards g (with_sync Unsynchronised x)) at)
-        (λ e. other e (v.sh n) refl)
-      where
-        only : (f : ℕ) (z : SyncState) → v.sh n ≡ Table f z → f ≡ g → n ≡ k
-        only f z p q = sound.framed.unique n k (thing.Table g) (ap (is_table_of g) p ∙ eq-eqb f g q) (ap (is_table_of g) at ∙ table_here g y)
-
-        other : (n ≡ k → ⊥) → (x : Shadow) → v.sh n ≡ x → guards g x ≡ false
-        other e (Directory f) p = sym (ap (is_directory_of g) p) ∙ none n
-        other e (Table f Protected) p = ne_eqb f g (λ q. e (only f Protected p q))
-        other e x p = refl
+    unguarded_by_sync n = grind (arith, nat_tests, sound.framed.unique n k (thing.Table g), none n)
 
     pub sound_unsync : Sound F m (v_sync k Unsynchronised v)
     unfolding v_sync
@@ -198,14 +172,10 @@ module _ (F : Format) (m : Memory) (v : View) (sound : Sound F m v) where
         alike n = sync_alike (eqb n k) Unsynchronised (v.sh n)
 
         protected : (b : Bool) (x : Shadow) (f : ℕ) → cond b (with_sync Unsynchronised x) x ≡ Table f Protected → x ≡ Table f Protected
-        protected false x f e = e
-        protected true (Table h z) f e = cc
-        protected true x f e = e
+        protected b x f e = grind (arith, nat_tests)
 
         fewer : (b : Bool) (x : Shadow) (f : ℕ) → guards f x ≡ false → guards f (cond b (with_sync Unsynchronised x) x) ≡ false
-        fewer false x f e = e
-        fewer true (Table h z) f e = refl
-        fewer true x f e = e
+        fewer b x f e = grind (arith, nat_tests)
 
         -- an unsynchronised table was one, or is the table of g
         table_of : (i f : ℕ) → cond (eqb i k) (with_sync Unsynchronised (v.sh i)) (v.sh i) ≡ Table f Unsynchronised → (v.sh i ≡ Table f Unsynchronised) ⊎ (f ≡ g)

@@ -1,7 +1,7 @@
 -- Finding or taking the slot of a thing keeps slots fit.
 use Rattle.std.proofs.lemmas.Bool.Decides.{nat_tests}
 use Rattle.std.proofs.Common.{◌≡◌, ℕ, ◌<◌, Bool, true, false, cond, not, ◌&&◌, eqb, ltb, ◌⊎◌, List, Some, None, Option, sym, refl, ap, ◌∙◌, subst, inl, inr, arith}
-use Rattle.std.proofs.lemmas.Bool.{and_parts, eq-eqb, false_from_ne_true, lt-ltb, ltb-true}
+use Rattle.std.proofs.lemmas.Bool.{eq-eqb, false_from_ne_true, lt-ltb, ltb-true}
 use Rattle.memory.specs.Memory.{Memory, has_words}
 use Rattle.paging.specs.Formats.{Format}
 use Rattle.policies.specs.Orders.{OrdersKept, Rule, first_permitted, times}
@@ -85,10 +85,7 @@ module _ (F : Format) (R : Rule) (kept_order : OrdersKept R) (m : Memory) where
   }
     where
       parts : (ltb i t.count ≡ true) × (not (is_nothing (shadow_at i t)) ≡ true) × (not (is_root (shadow_at i t) kept) ≡ true)
-      parts =
-          let z = and_parts (ltb i t.count && not (is_nothing (shadow_at i t))) (not (is_root (shadow_at i t) kept)) e in
-          let y = and_parts (ltb i t.count) (not (is_nothing (shadow_at i t))) z.0 in
-          (y.0, y.1, z.1)
+      parts = (grind (arith, nat_tests), grind (arith, nat_tests), grind (arith, nat_tests))
 
       stays : (root k : ℕ) → kept ≡ Some root → shadow_at k t ≡ Directory root → cond (eqb k i) Nothing (shadow_at k t) ≡ Directory root
       stays root k z w = grind (arith, nat_tests)
