@@ -1,5 +1,6 @@
 -- After an access that walked its link is there, with the present word, and names the slot below.
-use Rattle.std.proofs.Common.{◌≡◌, ℕ, ◌<◌, Bool, true, cond, ◌&&◌, eqb, ◌⊎◌, List, Some, sym, refl, ap, ◌∙◌, subst, inl, inr, ⊎_elim}
+use Rattle.std.proofs.lemmas.Bool.Decides.{nat_tests}
+use Rattle.std.proofs.Common.{◌≡◌, ℕ, ◌<◌, Bool, true, cond, ◌&&◌, eqb, ◌⊎◌, List, Some, sym, refl, ap, ◌∙◌, subst, inl, inr, ⊎_elim, arith}
 use Rattle.std.proofs.lemmas.Bool.{eq-eqb, eqb-true}
 use Rattle.memory.specs.Memory.{Memory}
 use Rattle.paging.specs.Formats.{Format}
@@ -51,7 +52,7 @@ module _ (v : View) (i j : ℕ) (p : Place) where
 
   pub put_other : (k l : ℕ) → ((k ≡ i) × (l ≡ j) → ⊥) → (v_put i j p v).pl k l ≡ v.pl k l
   unfolding v_put
-  put_other k l n = by_eq₂ k i l j (λ b. cond b p (v.pl k l) ≡ v.pl k l) (λ a b. absurd (n (a, b))) (λ m. refl)
+  put_other k l n = grind (arith, nat_tests)
 
   -- either the place written, or an old one
   pub put_either : (k l : ℕ) (q : Place) → (v_put i j p v).pl k l ≡ q → ((k ≡ i) × (l ≡ j) × (p ≡ q)) ⊎ (v.pl k l ≡ q)

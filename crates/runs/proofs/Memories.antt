@@ -25,7 +25,7 @@ has_changed c i w = grind (arith, nat_tests)
 
 module _ (m : Memory) (f i w : ℕ) where
   pub has_stored : (g : ℕ) → has_words (stored m f i w g) ≡ has_words (m g)
-  has_stored g = elim (eqb g f) as (λ b. has_words (cond b (changed (m g) i w) (m g)) ≡ has_words (m g)) [ true ↦ has_changed (m g) i w | false ↦ refl ]
+  has_stored g = grind (arith, nat_tests, has_changed (m g) i w)
 
   pub word_stored_same : has_words (m f) ≡ true → word_at (stored m f i w) f i ≡ w
   word_stored_same h = rw (eq-eqb f f refl) (changed_same (m f) i w h)

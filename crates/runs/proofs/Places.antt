@@ -67,16 +67,12 @@ small_slot t i r e = grind (arith, get_or_past t.slots i no_slot, r.slots)
 
 module _ (f : ℕ) (s : Slot) where
   guard_shadow : (x : Shadow) → (guard_as f s x).shadow ≡ s.shadow
-  guard_shadow (Split g) = elim (in_split f g) as (λ b. (cond b (change_place (f - g) flag_off s) s).shadow ≡ s.shadow) [ true ↦ refl | false ↦ refl ]
-  guard_shadow x = refl
+  guard_shadow x = grind (arith, nat_tests)
 
   guard_place : (j : ℕ) → (1024 ≤ j → get_or s.places j Empty ≡ Empty) → (x : Shadow) → get_or (guard_as f s x).places j Empty ≡ guard_at f j x (get_or s.places j Empty)
   guard_place j past (Table g y) = ListN.get_or-map (guard_leaf f) s.places j Empty
   guard_place j past (Split g) = go (in_split f g) refl
     where
-      stays : cond (eqb (g + j) f) Empty Empty ≡ Empty
-      stays = elim (eqb (g + j) f) as (λ b. cond b Empty Empty ≡ Empty) [ true ↦ refl | false ↦ refl ]
-
       same : (g ≤ f) → eqb j (f - g) ≡ eqb (g + j) f
       same h = grind (arith, nat_tests)
 
@@ -286,12 +282,7 @@ pub roomy_guard : (f : ℕ) (t : SlotTable) → Roomy t → Roomy (guard f t)
 roomy_guard f t = roomy_all (guard_slot f) t refl (λ s. keeps s s.shadow)
   where
     keeps : (s : Slot) (x : Shadow) → length (guard_as f s x).places ≡ length s.places
-    keeps s (Table g y) = length-map s.places (guard_leaf f)
-    keeps s (Split g) = elim (in_split f g) as (λ b. length (cond b (change_place (f - g) flag_off s) s).places ≡ length s.places) [
-      | true ↦ length-set s.places (f - g) (flag_off (get_or s.places (f - g) Empty))
-      | false ↦ refl
-    ]
-    keeps s x = refl
+    keeps s x = grind (arith, nat_tests, length-map s.places (guard_leaf f), length-set s.places)
 
 pub roomy_evict : (i : ℕ) (t : SlotTable) → Roomy t → Roomy (evict i t)
 roomy_evict i t r = roomy_slot i (λ s. bare Nothing) (change_all (unlink_slot i) t) (λ s e. length-replicate 1024 Empty) (roomy_all (unlink_slot i) t refl (λ s. keeps s s.shadow) r)
@@ -353,10 +344,7 @@ count_check i ws t = grind (arith, nat_tests)
 
 pub count_resync : (m : Memory) (i : ℕ) (t : SlotTable) → (resync m i t).count ≡ t.count
 unfolding resync
-count_resync m i t = elim (lags (shadow_at i t)) as (λ b. (cond b (check_table i (frame_list m (table_frame (shadow_at i t))) t) t).count ≡ t.count) [
-  | true ↦ count_check i (frame_list m (table_frame (shadow_at i t))) t
-  | false ↦ refl
-]
+count_resync m i t = grind (arith, nat_tests, count_check i (frame_list m (table_frame (shadow_at i t))) t)
 
 -- CHECKING
 

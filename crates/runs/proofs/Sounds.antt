@@ -15,7 +15,7 @@ use Rattle.slot.specs.declared.slots.SyncState.TheVariants.{Protected, Unsynchro
 use Rattle.slot.specs.declared.slots.Thing.{Thing}
 use Rattle.slot.specs.declared.slots.Thing.TheVariants as thing
 use Rattle.runs.specs.Laws.{word_at}
-use Rattle.runs.proofs.Basics.{by_eq, by_eq₂, cond_other}
+use Rattle.runs.proofs.Basics.{by_eq, by_eq₂}
 use Rattle.runs.proofs.Losses.{Less, checked_less, guard_at_less, kept, less_cond, less_empty, less_leaf, less_link, less_opens, less_piece, unlink_less}
 use Rattle.runs.proofs.Memories.{has_stored, up_trans, word_stored_other}
 use Rattle.runs.proofs.Shadows.{Alike, alike_directory, alike_shadows, alike_split, alike_sym, alike_table, as_is, emptied_shadows, new_only, new_protected, nothing_shadows, state, sync_alike}
@@ -215,14 +215,13 @@ module _ (F : Format) (m : Memory) where
       framed = record {
         unique = sound.framed.unique;
         backed = sound.framed.backed;
-        within = λ a b h. by_eq₂ a i b j (λ x. cond x p (v.pl a b) ≡ Empty) (λ q r. inside (subst (λ x. 1024 ≤ x) r h)) (λ q. sound.framed.within a b h);
+        within = λ a b h. grind (arith, nat_tests, inside, sound.framed.within a b);
         links = λ a b w s e. subst (Fits _ a b) e (all a b);
         leaves = λ a b w f c e. subst (Fits _ a b) e (all a b);
         pieces = λ a b c e. subst (Fits _ a b) e (all a b);
         apart = sound.framed.apart;
       };
-      shut = λ a b g k. by_eq₂ a i b j (λ x. opens b (v.sh a) g (cond x p (v.pl a b)) ≡ true → guards g (v.sh k) ≡ false)
-          (λ q r e. free g k (subst (λ y. opens y (v.sh i) g p ≡ true) r (subst (λ x. opens b (v.sh x) g p ≡ true) q e))) (λ q e. sound.shut a b g k e);
+      shut = λ a b g k e. grind (arith, nat_tests, free g k, sound.shut a b g k);
     }
       where
         all : (a b : ℕ) → Fits (v_put i j p v) a b (cond (eqb a i && eqb b j) p (v.pl a b))
@@ -292,10 +291,10 @@ module _ (F : Format) (m : Memory) (v : View) (sound : Sound F m v) where
           (λ q e d p. let z : f ≡ g = cc in subst (λ x. Up F w (word_at m x j)) z (subst (λ x. Up F w x) (check_word (word_at m f j) (v.pl k j) w a b e) same)) (λ q e d p. p d)
 
       unsync : (k g : ℕ) → cond (eqb k i) (Table f Protected) (v.sh k) ≡ Table g Unsynchronised → v.sh k ≡ Table g Unsynchronised
-      unsync k g = cond_other (eqb k i) (λ e. cc)
+      unsync k g e = grind (arith, nat_tests)
 
       more_guards : (g k : ℕ) → (g ≡ f → ⊥) → guards g (v.sh k) ≡ false → guards g (cond (eqb k i) (Table f Protected) (v.sh k)) ≡ false
-      more_guards g k q e = elim (eqb k i) as (λ b. guards g (cond b (Table f Protected) (v.sh k)) ≡ false) [ true ↦ ne_eqb f g (λ z. q (sym z)) | false ↦ e ]
+      more_guards g k q e = grind (arith, nat_tests)
 
 -- EVICTING AND FILLING
 
@@ -343,18 +342,11 @@ module _ (F : Format) (m : Memory) (v : View) (sound : Sound F m v) where
       unlinks
       (λ a b x p q. sound.framed.unique a b x (emptied_shadows (eqb a i) (v.sh a) x p) (emptied_shadows (eqb b i) (v.sh b) x q))
       (λ k. elim (eqb k i) as (λ b. Backed m (cond b Nothing (v.sh k))) [ true ↦ tt | false ↦ sound.framed.backed k ])
-      (λ a k f e d. sound.framed.apart a k f (table a f e) (directory k f d)))
+      (λ a k f e d. sound.framed.apart a k f (grind (arith, nat_tests)) (grind (arith, nat_tests))))
       (λ k j g l e. opens_anew i Nothing (λ a b. unlink_at i (v.sh a) (v.pl a b)) (λ a b. unlink_less i (v.sh a) (v.pl a b)) k j g l e refl)
     where
       unlinks : (k d w s : ℕ) → cond (eqb k i) Empty (unlink_at i (v.sh k) (v.pl k d)) ≡ Link w s → Linked F m v k d w s → s ≡ i → ⊥
-      unlinks k d w s e x = elim (eqb k i) as (λ b. cond b Empty (unlink_at i (v.sh k) (v.pl k d)) ≡ Link w s → s ≡ i → ⊥)
-          [ true ↦ (λ z q. cc) | false ↦ (λ z q. unlinked i w s (v.pl k d) (sym (ap (λ y. unlink_at i y (v.pl k d)) x.is) ∙ z) q) ] e
-
-      table : (k f : ℕ) → cond (eqb k i) Nothing (v.sh k) ≡ Table f Unsynchronised → v.sh k ≡ Table f Unsynchronised
-      table k f = cond_other (eqb k i) (λ e. cc)
-
-      directory : (k f : ℕ) → cond (eqb k i) Nothing (v.sh k) ≡ Directory f → v.sh k ≡ Directory f
-      directory k f = cond_other (eqb k i) (λ e. cc)
+      unlinks k d w s e x q = grind (arith, nat_tests, x.is, unlinked i w s (v.pl k d))
 
   module _ (i : ℕ) (bare : v.sh i ≡ Nothing) where
     -- a slot filled with thing x, which no slot shadows
@@ -367,19 +359,10 @@ module _ (F : Format) (m : Memory) (v : View) (sound : Sound F m v) where
         (λ k d w s e l q. cc (nothing_shadows (named F w), l.names))
         unique
         (λ k. elim (eqb k i) as (λ b. Backed m (cond b (shadow_of x) (v.sh k))) [ true ↦ backs | false ↦ sound.framed.backed k ])
-        (λ a k f e. elim (eqb k i) as (λ b. cond b (shadow_of x) (v.sh k) ≡ Directory f → ⊥) [ true ↦ lags a f (table a f e) | false ↦ sound.framed.apart a k f (table a f e) ])
+        (λ a k f e d. grind (arith, nat_tests, lags a f, sound.framed.apart a k f, new_protected x f))
       where
-        -- what shadows x is slot i
-        only : (k : ℕ) (y : Thing) → shadows (shadow_of x) y ≡ true → shadows (v.sh k) y ≡ true → ⊥
-        only k y p q = cc (new k, new_only x y p)
-
         unique : (a b : ℕ) (y : Thing) → shadows (cond (eqb a i) (shadow_of x) (v.sh a)) y ≡ true → shadows (cond (eqb b i) (shadow_of x) (v.sh b)) y ≡ true → a ≡ b
-        unique a b y = by_eq a i (λ t. shadows (cond t (shadow_of x) (v.sh a)) y ≡ true → shadows (cond (eqb b i) (shadow_of x) (v.sh b)) y ≡ true → a ≡ b)
-            (λ q p. by_eq b i (λ t. shadows (cond t (shadow_of x) (v.sh b)) y ≡ true → a ≡ b) (λ r e. q ∙ sym r) (λ r e. absurd (only b y p e)))
-            (λ q p. by_eq b i (λ t. shadows (cond t (shadow_of x) (v.sh b)) y ≡ true → a ≡ b) (λ r e. absurd (only a y e p)) (λ r e. sound.framed.unique a b y p e))
-
-        table : (k f : ℕ) → cond (eqb k i) (shadow_of x) (v.sh k) ≡ Table f Unsynchronised → v.sh k ≡ Table f Unsynchronised
-        table k f = cond_other (eqb k i) (new_protected x f)
+        unique a b y p q = grind (arith, nat_tests, new a, new b, new_only x y, sound.framed.unique a b y)
 
     fill_shut : (x : Thing) (k j g l : ℕ) → opens j ((v_fill i x v).sh k) g ((v_fill i x v).pl k j) ≡ true → guards g (shadow_of x) ≡ false → guards g ((v_fill i x v).sh l) ≡ false
     unfolding v_fill
