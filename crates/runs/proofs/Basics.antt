@@ -1,11 +1,6 @@
 -- Proofs by the cases of a test.
-use Rattle.std.proofs.Common.{◌≡◌, ℕ, Bool, true, false, cond, ◌&&◌, eqb, refl}
+use Rattle.std.proofs.Common.{◌≡◌, ℕ, Bool, true, false, ◌&&◌, eqb, refl}
 use Rattle.std.proofs.lemmas.Bool.{eq-eqb, eqb-false, eqb-true}
-
--- a choice that is not the first is the second
-pub cond_other : {A : Type 0} (b : Bool) {x y z : A} → (x ≡ z → ⊥) → cond b x y ≡ z → y ≡ z
-cond_other true n e = absurd (n e)
-cond_other false n e = e
 
 pub elim_eq : (t : Bool) (P : Bool → Type 0) → (t ≡ true → P true) → (t ≡ false → P false) → P t
 elim_eq true P y n = y refl

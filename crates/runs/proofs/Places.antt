@@ -3,7 +3,7 @@ use Rattle.std.proofs.Common.{◌≡◌, ℕ, zero, suc, ◌+◌, ◌-◌, ◌<�
 use lib.ListN
 use lib.ListN.{get_or-replicate, length-map, length-replicate}
 use Rattle.std.proofs.lemmas.List.{get_or-map, get_or_past, get_or-set_other, get_or-set_same}
-use Rattle.std.proofs.lemmas.Bool.{and_parts, cases_eq, cases_lt, eq-eqb, leb-true, lt-ltb, ltb-true, ne_eqb}
+use Rattle.std.proofs.lemmas.Bool.{and_parts, cases_eq, cases_lt, eq-eqb, leb-true, ne_eqb}
 use Rattle.std.proofs.lemmas.Bool.Decides.{nat_tests}
 use Rattle.memory.specs.Memory.{Memory}
 use Rattle.shadow.specs.Slots.{change_all, change_slot, check_as, check_table, drop_entry, evict, fill, find_slot, first_empty, first_from, flag_off_at, fresh, guard, is_free, may_take, permitted, place_at, put_place, set_sync, shadow_at}
@@ -100,8 +100,7 @@ view_guard f t r = same_view (view (guard f t)) (v_guard f (view t))
 
 module _ (i : ℕ) (s : Slot) where
   unlink_shadow : (x : Shadow) → (unlink_as i s x).shadow ≡ s.shadow
-  unlink_shadow (Directory g) = refl
-  unlink_shadow x = refl
+  unlink_shadow x = grind (arith, nat_tests)
 
   unlink_in : (j : ℕ) (x : Shadow) → get_or (unlink_as i s x).places j Empty ≡ unlink_at i x (get_or s.places j Empty)
   unlink_in j (Directory g) = ListN.get_or-map (unlink_place i) s.places j Empty
@@ -144,8 +143,7 @@ view_drop f j t = same_view (view (drop_entry f j t)) (v_drop f j (view t))
     at k = ListN.get_or-map (drop_in_slot f j) t.slots k no_slot
 
     drop_shadow : (s : Slot) (b : Bool) → (cond b (change_place j (λ p. Empty) s) s).shadow ≡ s.shadow
-    drop_shadow s true = refl
-    drop_shadow s false = refl
+    drop_shadow s b = grind (arith, nat_tests)
 
     drop_place : (s : Slot) (l : ℕ) (b : Bool) → get_or (cond b (change_place j (λ p. Empty) s) s).places l Empty ≡ cond (b && eqb l j) Empty (get_or s.places l Empty)
     drop_place s l true = changed (λ p. Empty) Empty refl s.places j l (λ b q. q ≡ cond b Empty (get_or s.places l Empty)) refl refl
@@ -171,12 +169,8 @@ module _ (p : ℕ → Slot → Bool) where
 
   first_none : (k : ℕ) (ss : List Slot) → first_from p k ss ≡ None → (j n : ℕ) → k + j ≡ n → j < length ss → p n (get_or ss j no_slot) ≡ false
   first_none k [] e j n is h = absurd (omega arith)
-  first_none k (s ∷ ss) e j n is h = go (p k s) refl (first_none (suc k) ss) e j is h
-    where
-      go : (b : Bool) → p k s ≡ b → (first_from p (suc k) ss ≡ None → (j n : ℕ) → suc k + j ≡ n → j < length ss → p n (get_or ss j no_slot) ≡ false) → cond b (Some k) (first_from p (suc k) ss) ≡ None → (j : ℕ) → k + j ≡ n → j < suc (length ss) → p n (get_or (s ∷ ss) j no_slot) ≡ false
-      go true q later e j is h = cc
-      go false q later e zero is h = let same : k ≡ n = omega arith in subst (λ (m : ℕ). p m s ≡ false) same q
-      go false q later e (suc j) is h = later e j n (omega arith) (omega arith)
+  first_none k (s ∷ ss) e zero n is h = grind (arith, nat_tests)
+  first_none k (s ∷ ss) e (suc j) n is h = grind (arith, nat_tests, first_none (suc k) ss)
 
 -- searches that ask only what a slot shadows
 module _ (q : Shadow → Bool) (t : SlotTable) where
@@ -197,31 +191,26 @@ module _ (q : Shadow → Bool) (t : SlotTable) where
   slot_none n e k = grind (arith, slot_missed n, k)
 
 pub find_some : (x : Thing) (t : SlotTable) (i : ℕ) → Roomy t → find_slot x t ≡ Some i → (shadows (shadow_at i t) x ≡ true) × (i < 8)
-find_some x t i r e = let k = slot_found (λ y. shadows y x) t i e in (k.0, subst (λ (n : ℕ). i < n) r.slots k.1)
+find_some x t i r e = grind (arith, slot_found (λ y. shadows y x) t i e, r.slots)
 
 pub find_none : (x : Thing) (t : SlotTable) → find_slot x t ≡ None → (k : ℕ) → shadows (shadow_at k t) x ≡ false
 find_none x t e = slot_missed (λ y. shadows y x) t (nothing_shadows x) e
 
 pub empty_some : (t : SlotTable) (i : ℕ) → first_empty t ≡ Some i → (is_nothing (shadow_at i t) ≡ true) × (i < t.count)
-empty_some t i e = let r = first_some (λ k s. is_free t.count k s.shadow) 0 t.slots i e in
-    let same : r.step ≡ i = omega (arith, r.number) in
-    let parts = and_parts (ltb i t.count) (is_nothing (shadow_at r.step t)) r.passes in
-    (subst (λ (n : ℕ). is_nothing (shadow_at n t) ≡ true) same parts.1, ltb-true i t.count parts.0)
+empty_some t i e = grind (arith, nat_tests, first_some (λ k s. is_free t.count k s.shadow) 0 t.slots i e)
 
 pub empty_none : (t : SlotTable) → Roomy t → t.count ≤ 8 → first_empty t ≡ None → (k : ℕ) → k < t.count → is_nothing (shadow_at k t) ≡ false
-empty_none t r small e k h =
-    ap (λ b. b && is_nothing (shadow_at k t)) (sym (lt-ltb k t.count h))
-    ∙ first_none (λ n s. is_free t.count n s.shadow) 0 t.slots e k k (omega arith) (rw r.slots (omega arith))
+empty_none t r small e k h = grind (arith, nat_tests, r.slots, first_none (λ n s. is_free t.count n s.shadow) 0 t.slots e k k)
 
 -- WORDS OF A FRAME
 
 get_or_listed : (w : ℕ → ℕ) (k n j : ℕ) → j < n → get_or (listed w k n) j 0 ≡ w (k + j)
 get_or_listed w k zero j h = absurd (omega arith)
-get_or_listed w k (suc n) zero h = let same : k ≡ k + 0 = omega arith in ap w same
-get_or_listed w k (suc n) (suc j) h = let same : suc k + j ≡ k + suc j = omega arith in get_or_listed w (suc k) n j (omega arith) ∙ ap w same
+get_or_listed w k (suc n) zero h = grind arith
+get_or_listed w k (suc n) (suc j) h = grind (arith, get_or_listed w (suc k) n j)
 
 pub frame_word : (m : Memory) (f j : ℕ) → j < 1024 → get_or (frame_list m f) j 0 ≡ word_at m f j
-frame_word m f j h = let same : 0 + j ≡ j = omega arith in get_or_listed (word_at m f) 0 1024 j h ∙ ap (word_at m f) same
+frame_word m f j h = grind (arith, get_or_listed (word_at m f) 0 1024 j h)
 
 -- PERMISSIONS
 
@@ -288,8 +277,7 @@ pub roomy_evict : (i : ℕ) (t : SlotTable) → Roomy t → Roomy (evict i t)
 roomy_evict i t r = roomy_slot i (λ s. bare Nothing) (change_all (unlink_slot i) t) (λ s e. length-replicate 1024 Empty) (roomy_all (unlink_slot i) t refl (λ s. keeps s s.shadow) r)
   where
     keeps : (s : Slot) (x : Shadow) → length (unlink_as i s x).places ≡ length s.places
-    keeps s (Directory g) = length-map s.places (unlink_place i)
-    keeps s x = refl
+    keeps s x = grind (arith, nat_tests, length-map s.places (unlink_place i))
 
 pub roomy_fill : (i : ℕ) (x : Thing) (t : SlotTable) → Roomy t → Roomy (fill i x t)
 roomy_fill i x t = roomy_slot i (λ s. bare (shadow_of x)) t (λ s e. length-replicate 1024 Empty)
@@ -307,8 +295,7 @@ pub roomy_drop : (f j : ℕ) (t : SlotTable) → Roomy t → Roomy (drop_entry f
 roomy_drop f j t = roomy_all (drop_in_slot f j) t refl (λ s. keeps s (copies f s.shadow))
   where
     keeps : (s : Slot) (b : Bool) → length (cond b (change_place j (λ p. Empty) s) s).places ≡ length s.places
-    keeps s true = length-set s.places j Empty
-    keeps s false = refl
+    keeps s b = grind (arith, nat_tests, length-set s.places j Empty)
 
 length_checked : (ws : List ℕ) (k : ℕ) (ps : List Place) → length (check_from ws k ps) ≡ length ps
 length_checked ws k [] = refl
