@@ -15,7 +15,7 @@ use Rattle.slot.specs.declared.slots.Shadow.TheVariants.{Directory, Table}
 use Rattle.shadow.specs.declared.slots.SlotTable.{SlotTable}
 use Rattle.slot.specs.declared.slots.SyncState.TheVariants.{Unsynchronised}
 use Rattle.slot.specs.declared.slots.Thing.TheVariants as thing
-use Rattle.runs.specs.Histories.{Event, History, Opening, Sometime, covers, earlier, exit_of, failed, flushed_all, flushed_page, marks_in, memory_at, mode_at, moded, root_at, settled, store_of, stores_in, switched, went}
+use Rattle.runs.specs.Histories.{Event, History, Opening, Sometime, covers, earlier, exit_of, failed, flushed_all, flushed_page, marks_in, memory_at, mode_at, moded, root_at, settled, store_of, switched, went}
 use Rattle.runs.specs.Laws.{after_access, after_call, asked_now, fault, guest_walk, just, LawfulAnswer, LawfulFault, LawfulReply, Recent, Tallied}
 use Rattle.runs.specs.Laws as laws_of
 use Rattle.runs.specs.Terms.{Call, access, close_run, deliver, flush, flush_all, flush_page, give_up, open_run, page_of, poke, set_mode, switch_root, Through, no_exit}
@@ -88,36 +88,17 @@ module _ (F : Format) (laws : LawsOfMarking F) (R : Rule) (kept_order : OrdersKe
         (λ e. sound_store F m (view r.table) good.fit.sound f (word_index a.address) w (word_index_small a.address) (store_free a f (eqb-true a.kind store e) hit))
         (λ e. good.fit.sound)
 
-    hit_good : (a : Asked) (w f : ℕ) (q : List ℕ) (g : Hart) → g.root ≡ root → g.mode ≡ r.hart.mode → Tallied (went a w (hit_answer a w m f) ∷ h) g.tallies → Fit F m r.table q → hit_target F a root r.table ≡ Some f → Hit F a r.table I f
-        → Good F o (went a w (hit_answer a w m f) ∷ h) (record { table = r.table; order = q; hart = g })
-    hit_good a w f q g re me tallied fit hits hit = record {
-      root = re ∙ good.root;
-      mode = me ∙ good.mode;
-      fit = refit fit _ r.table fit.roomy refl (hit_sound a w f hit);
-      rooted = subst (λ (n : ℕ). shadow_at (root_slot n r.table) r.table ≡ Directory n) (sym re) good.rooted;
-      were = λ i k e never. good.were i k e never.1;
-      raised = (raises_refl F m, tt, good.raised);
-      tallied = tallied;
-      bounded = good.bounded;
-      past = subst (λ (n : ℕ). Past F o (went a w (hit_answer a w m f) ∷ h) n (view r.table)) (sym re) (λ i b u k x y c z e l lag leaf. earlier refl (good.past i b u k x y c z e l lag leaf));
-      ready = subst (λ (n : ℕ). (b : Asked) → Recent o b.kind (page_of b.address) b.privilege (went a w (hit_answer a w m f) ∷ h) → is_some (hit_target F b n r.table) ≡ true) (sym re) ready;
-    }
-      where
-        ready : (b : Asked) → Recent o b.kind (page_of b.address) b.privilege (went a w (hit_answer a w m f) ∷ h) → is_some (hit_target F b root r.table) ≡ true
-        ready b (just k x v free) = ap is_some (target_alike F a b root r.table k x v ∙ hits)
-        ready b (laws_of.since e z) = good.ready b z
+    -- CALLS THAT LEAVE SLOTS
 
-    -- CALLS THAT LEAVE SLOTS AND MEMORY
-
-    -- an event that writes nothing, covers nothing and leaves the root
-    still_good : (e : Event) (g : Hart) → marks_in e ≡ [] → stores_in e ≡ [] → ((p : ℕ) → covers e p ≡ false) → root_at o (e ∷ h) ≡ root_at o h
-        → g.root ≡ root → g.mode ≡ mode_at o (e ∷ h) → Tallied (e ∷ h) g.tallies
+    -- an event without marks that covers nothing and leaves the root
+    still_good : (e : Event) (q : List ℕ) (g : Hart) → marks_in e ≡ [] → ((p : ℕ) → covers e p ≡ false) → root_at o (e ∷ h) ≡ root_at o h
+        → g.root ≡ root → g.mode ≡ mode_at o (e ∷ h) → Tallied (e ∷ h) g.tallies → Fit F (memory_at o (e ∷ h)) r.table q
         → ((b : Asked) → Recent o b.kind (page_of b.address) b.privilege (e ∷ h) → is_some (hit_target F b root r.table) ≡ true)
-        → Good F o (e ∷ h) (record { table = r.table; order = r.order; hart = g })
-    still_good e g marks stores cover root_same re me tallied ready = record {
+        → Good F o (e ∷ h) (record { table = r.table; order = q; hart = g })
+    still_good e q g marks cover root_same re me tallied fit ready = record {
       root = re ∙ good.root ∙ sym root_same;
       mode = me;
-      fit = subst (λ n. Fit F n r.table r.order) (sym same_memory) good.fit;
+      fit = fit;
       rooted = subst (λ (n : ℕ). shadow_at (root_slot n r.table) r.table ≡ Directory n) (sym re) good.rooted;
       were = λ i k z never. good.were i k z never.1;
       raised = (subst (λ xs. Raises F m (put_all m xs)) (sym marks) (raises_refl F m), subst SmallWrites (sym marks) tt, good.raised);
@@ -126,9 +107,15 @@ module _ (F : Format) (laws : LawsOfMarking F) (R : Rule) (kept_order : OrdersKe
       past = subst (λ (n : ℕ). Past F o (e ∷ h) n (view r.table)) (sym re) (λ i b u k x y c z q l lag leaf. earlier (cover (page_of b)) (good.past i b u k x y c z q l lag leaf));
       ready = subst (λ (n : ℕ). (b : Asked) → Recent o b.kind (page_of b.address) b.privilege (e ∷ h) → is_some (hit_target F b n r.table) ≡ true) (sym re) ready;
     }
+
+    hit_good : (a : Asked) (w f : ℕ) (q : List ℕ) (g : Hart) → g.root ≡ root → g.mode ≡ r.hart.mode → Tallied (went a w (hit_answer a w m f) ∷ h) g.tallies → Fit F m r.table q → hit_target F a root r.table ≡ Some f → Hit F a r.table I f
+        → Good F o (went a w (hit_answer a w m f) ∷ h) (record { table = r.table; order = q; hart = g })
+    hit_good a w f q g re me tallied fit hits hit =
+        still_good (went a w (hit_answer a w m f)) q g refl (λ p. refl) refl re (me ∙ good.mode) tallied (refit fit _ r.table fit.roomy refl (hit_sound a w f hit)) ready
       where
-        same_memory : memory_at o (e ∷ h) ≡ m
-        same_memory = ap (λ xs. put_all (put_all m xs) (stores_in e)) marks ∙ ap (put_all m) stores
+        ready : (b : Asked) → Recent o b.kind (page_of b.address) b.privilege (went a w (hit_answer a w m f) ∷ h) → is_some (hit_target F b root r.table) ≡ true
+        ready b (just k x v free) = ap is_some (target_alike F a b root r.table k x v ∙ hits)
+        ready b (laws_of.since e z) = good.ready b z
 
     -- after an event that is no access that came through, a recent one came before it, and the event has no exit
     came_before : {A : Asked → Type 0} (e : Event) → ((a : Asked) (w : ℕ) (x : Through) → e ≡ went a w x → ⊥)
@@ -160,7 +147,7 @@ module _ (F : Format) (laws : LawsOfMarking F) (R : Rule) (kept_order : OrdersKe
     )
     walk_fine a w privilege none (faulted x) e = (
       fault_lawful a x privilege none e,
-      λ k z. goes_on _ _ _ refl (still_good (failed a x) _ refl refl (λ p. refl) refl refl good.mode (tallied_more (failed a x) 0 h r.hart.tallies refl good.tallied) (came_before (failed a x) (λ b u y q. cc) (λ q. absurd (omega arith)))) k z,
+      λ k z. goes_on _ _ _ refl (still_good (failed a x) _ _ refl (λ p. refl) refl refl good.mode (tallied_more (failed a x) 0 h r.hart.tallies refl good.tallied) good.fit (came_before (failed a x) (λ b u y q. cc) (λ q. absurd (omega arith)))) k z,
     )
 
     access_fine : (a : Asked) (w : ℕ) → a.privilege ≡ mode_at o h → FineAccess a w (access_ends R F s r a w)
@@ -341,7 +328,7 @@ module _ (F : Format) (laws : LawsOfMarking F) (R : Rule) (kept_order : OrdersKe
     settled_next : (l : Option RecordedFault) → Next (settled ∷ h) (settled_as s r l)
     settled_next l k e =
         goes_on _ _ _ refl
-        (still_good settled _ refl refl (λ n. refl) refl refl good.mode (tallied_still settled h r.hart.tallies refl good.tallied) (came_before settled (λ b u y q. cc) (λ q. good.ready))) k e
+        (still_good settled _ _ refl (λ n. refl) refl refl good.mode (tallied_still settled h r.hart.tallies refl good.tallied) good.fit (came_before settled (λ b u y q. cc) (λ q. good.ready))) k e
 
     pub call_fine : (c : Call) → Fine c (in_run R F s r c)
     call_fine (open_run f k) = refused_fine (open_run f k) 1
@@ -355,7 +342,7 @@ module _ (F : Format) (laws : LawsOfMarking F) (R : Rule) (kept_order : OrdersKe
         switched_fine : (f : ℕ) → has_words (m f) ≡ true → Fine (switch_root f) (switch_ends R s r f)
         switched_fine f has = unfold switch_ends in (refl, λ k z. goes_on _ _ _ refl (switch_good f has _ refl refl (tallied_more (switched f) _ h r.hart.tallies refl good.tallied)) k z)
     call_fine (set_mode p) =
-        pending_fine (set_mode p) _ (refl, λ k z. goes_on _ _ _ refl (still_good (moded p) _ refl refl (λ n. refl) refl refl refl (tallied_still (moded p) h r.hart.tallies refl good.tallied) (came_before (moded p) (λ b u y q. cc) (λ q. good.ready))) k z)
+        pending_fine (set_mode p) _ (refl, λ k z. goes_on _ _ _ refl (still_good (moded p) _ _ refl (λ n. refl) refl refl refl (tallied_still (moded p) h r.hart.tallies refl good.tallied) good.fit (came_before (moded p) (λ b u y q. cc) (λ q. good.ready))) k z)
     call_fine (deliver x) = cond_both (is_pending x r.hart.pending) _ (refuse s 10) (Fine (deliver x)) (λ z. (refl, settled_next _)) (λ z. refused_fine (deliver x) 10)
     call_fine (give_up x) = cond_both (is_pending x r.hart.pending) _ (refuse s 10) (Fine (give_up x)) (λ z. (refl, settled_next _)) (λ z. refused_fine (give_up x) 10)
     call_fine close_run = pending_fine close_run _ (good.tallied, λ k z. cc)

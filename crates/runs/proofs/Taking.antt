@@ -4,7 +4,7 @@ use Rattle.std.proofs.Common.{◌≡◌, ℕ, ◌<◌, Bool, true, false, cond, 
 use Rattle.std.proofs.lemmas.Bool.{eq-eqb, false_from_ne_true, lt-ltb, ltb-true}
 use Rattle.memory.specs.Memory.{Memory, has_words}
 use Rattle.paging.specs.Formats.{Format}
-use Rattle.policies.specs.Orders.{OrdersKept, Rule, first_permitted, times}
+use Rattle.policies.specs.Orders.{OrdersKept, Rule, first_permitted}
 use Rattle.policies.proofs.Naming.{names_permitted}
 use Rattle.shadow.specs.Slots.{evict, fill, find_slot, first_empty, guard, may_take, permitted, shadow_at}
 use Rattle.slot.specs.Slot.{is_directory_of, is_nothing, is_root, is_table_of, lags, shadow_of, shadows}
@@ -31,16 +31,9 @@ HasFrame m (thing.Table f) = has_words (m f) ≡ true
 HasFrame m (thing.Split f) = Unit {0}
 
 module _ (F : Format) (R : Rule) (kept_order : OrdersKept R) (m : Memory) where
-  -- an order stays full
-  named_full : (t : SlotTable) (q : List ℕ) (x : ℕ) → ((i : ℕ) → i < t.count → 0 < times i q) → (i : ℕ) → i < t.count → 0 < times i (R.named q x)
-  named_full t q x f i l = subst (λ (n : ℕ). 0 < n) (sym (kept_order.named_rearranges q x i)) (f i l)
-
-  told_full : (t : SlotTable) (q : List ℕ) (x : ℕ) → ((i : ℕ) → i < t.count → 0 < times i q) → (i : ℕ) → i < t.count → 0 < times i (R.told q x)
-  told_full t q x f i l = subst (λ (n : ℕ). 0 < n) (sym (kept_order.told_rearranges q x i)) (f i l)
-
   pub told_fit : (t : SlotTable) (q : List ℕ) (x : ℕ) → Fit F m t q → Fit F m t (R.told q x)
   told_fit t q x fit =
-      record { roomy = fit.roomy; many = fit.many; few = fit.few; ordered = told_full t q x fit.ordered; sound = fit.sound }
+      record { roomy = fit.roomy; many = fit.many; few = fit.few; ordered = λ i l. rw (kept_order.told_rearranges q x i) (fit.ordered i l); sound = fit.sound }
 
   -- ROOM
 
@@ -74,7 +67,7 @@ module _ (F : Format) (R : Rule) (kept_order : OrdersKept R) (m : Memory) where
       roomy = roomy_evict i t fit.roomy;
       many = fit.many;
       few = fit.few;
-      ordered = named_full t q i fit.ordered;
+      ordered = λ k l. rw (kept_order.named_rearranges q i k) (fit.ordered k l);
       sound = subst (Sound F m) (sym (view_evict i t)) (sound_evict F m (view t) fit.sound i);
     };
     small = let l : i < t.count = ltb-true i t.count parts.0 in let u = fit.few in omega arith;
