@@ -1,22 +1,6 @@
--- What follows from a contradiction, and proofs by the cases of a test.
-use Rattle.std.proofs.Common.{◌≡◌, ℕ, Bool, true, false, cond, ◌&&◌, eqb, refl, arith}
+-- Proofs by the cases of a test.
+use Rattle.std.proofs.Common.{◌≡◌, ℕ, Bool, true, false, ◌&&◌, eqb, refl}
 use Rattle.std.proofs.lemmas.Bool.{eq-eqb, eqb-false, eqb-true}
-
--- anything follows from 0 ≡ 1, which `cc` has from two constructors that are said to be equal
-pub clash : {A : Type 0} → ◌≡◌ {A = ℕ} 0 1 → A
-clash e = absurd (omega arith)
-
-pub untrue : {A : Type 0} → false ≡ true → A
-untrue e = clash cc
-
-pub not_yes : (b : Bool) → (b ≡ true → ⊥) → b ≡ false
-not_yes true n = absurd (n refl)
-not_yes false n = refl
-
--- a choice that is not the first is the second
-pub cond_other : {A : Type 0} (b : Bool) {x y z : A} → (x ≡ z → ⊥) → cond b x y ≡ z → y ≡ z
-cond_other true n e = absurd (n e)
-cond_other false n e = e
 
 pub elim_eq : (t : Bool) (P : Bool → Type 0) → (t ≡ true → P true) → (t ≡ false → P false) → P t
 elim_eq true P y n = y refl
@@ -29,4 +13,4 @@ pub by_eq₂ : (a i b j : ℕ) (P : Bool → Type 0) → (a ≡ i → b ≡ j �
 by_eq₂ a i b j P y n = by_eq a i (λ x. P (x && eqb b j)) (λ p. by_eq b j P (y p) (λ q. n (λ z. q z.1))) (λ p. n (λ z. p z.0))
 
 pub both_false : (a i b j : ℕ) → (eqb a i && eqb b j) ≡ false → (a ≡ i) × (b ≡ j) → ⊥
-both_false a i b j e p = clash (cc (eq-eqb a i p.0, eq-eqb b j p.1))
+both_false a i b j e p = cc (eq-eqb a i p.0, eq-eqb b j p.1)

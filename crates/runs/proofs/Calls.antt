@@ -1,27 +1,26 @@
 -- Each call keeps a run good, and answers by the laws.
 use Rattle.std.proofs.Common.{◌≡◌, ℕ, ◌+◌, ◌%◌, ◌<◌, Bool, true, false, cond, eqb, leb, List, [], ◌∷◌, is_some, Some, None, Option, sym, refl, ap, ◌∙◌, subst, ⊎_elim, arith}
-use Rattle.std.proofs.lemmas.Bool.{cases_eq, eq-eqb, eqb-true, ne_eqb}
+use Rattle.std.proofs.lemmas.Bool.{cases_eq, cond_both, eq-eqb, eqb-true, ne_eqb}
 use Rattle.memory.specs.Memory.{Memory, has_words}
 use Rattle.paging.specs.Formats.{Format, LawsOfMarking}
 use Rattle.paging.specs.Terms.{directory_level, store}
-use Rattle.policies.specs.Orders.{OrdersKept, Rule}
+use Rattle.policies.specs.Orders.{OrdersKept, Rule, numbered}
 use Rattle.walk.specs.Marking.{put_all}
 use Rattle.walk.specs.Walk.{Asked, Failure, Outcome, directory_index, faulted, reached, table_index, walk_from, word_index}
 use Rattle.shadow.specs.Slots.{place_at, put_place, shadow_at}
-use Rattle.slot.specs.Slot.{is_directory_of, lags, shadows}
+use Rattle.slot.specs.Slot.{is_directory_of, shadows}
 use Rattle.slot.specs.declared.slots.Place.{Place}
-use Rattle.slot.specs.declared.slots.Place.TheVariants.{Empty, Link, Leaf, Piece}
+use Rattle.slot.specs.declared.slots.Place.TheVariants.{Empty, Link, Leaf}
 use Rattle.slot.specs.declared.slots.Shadow.TheVariants.{Directory, Table}
 use Rattle.shadow.specs.declared.slots.SlotTable.{SlotTable}
 use Rattle.slot.specs.declared.slots.SyncState.TheVariants.{Unsynchronised}
-use Rattle.slot.specs.declared.slots.Thing.{Thing}
 use Rattle.slot.specs.declared.slots.Thing.TheVariants as thing
-use Rattle.runs.specs.Histories.{Event, History, Opening, Sometime, covers, earlier, failed, flushed_all, flushed_page, marks_in, memory_at, mode_at, moded, root_at, settled, store_of, stores_in, switched, went}
+use Rattle.runs.specs.Histories.{Event, History, Opening, Sometime, covers, earlier, exit_of, failed, flushed_all, flushed_page, marks_in, memory_at, mode_at, moded, root_at, settled, store_of, switched, went}
 use Rattle.runs.specs.Laws.{after_access, after_call, asked_now, fault, guest_walk, just, LawfulAnswer, LawfulFault, LawfulReply, Recent, Tallied}
 use Rattle.runs.specs.Laws as laws_of
-use Rattle.runs.specs.Terms.{Call, access, close_run, deliver, flush, flush_all, flush_page, give_up, open_run, page_of, poke, set_mode, switch_root}
-use Rattle.runs.specs.Unit.{Ended, Hart, Running, State, Taken, access_by, access_ends, asked_in, call_limit, count_in, drop_below, drop_page, hit_answer, hit_target, in_run, is_pending, obtain, refuse, resync_all, root_slot, switch_ends, unless_full, unless_pending, walk_ends}
-use Rattle.runs.proofs.Basics.{clash, elim_eq, untrue}
+use Rattle.runs.specs.Terms.{Call, access, close_run, deliver, flush, flush_all, flush_page, give_up, open_run, page_of, poke, set_mode, switch_root, Through, no_exit}
+use Rattle.runs.specs.Unit.{Ended, Hart, RecordedFault, Running, State, Taken, access_by, access_ends, asked_in, call_limit, count_in, drop_below, drop_page, hit_answer, hit_target, in_run, is_pending, obtain, refuse, resync_all, root_slot, settled_as, switch_ends, unless_full, unless_pending, walk_ends}
+use Rattle.runs.proofs.Basics.{elim_eq}
 use Rattle.runs.proofs.Counting.{tallied_more, tallied_still}
 use Rattle.runs.proofs.Fewer.{Fewer, fewer_empty, fewer_same}
 use Rattle.runs.proofs.Good.{Fit, Good, Past, Then, refit}
@@ -32,13 +31,13 @@ use Rattle.runs.proofs.Memories.{raises_refl}
 use Rattle.runs.proofs.Missing.{hit_alike, miss_good, miss_lawful, root_slot_is, same_page}
 use Rattle.runs.proofs.Moments.{SmallWrites}
 use Rattle.runs.proofs.Places.{roomy_put, small_slot, view_put}
-use Rattle.runs.proofs.Resyncs.{Turned, all_calm, each}
-use Rattle.runs.proofs.Shadows.{directory_here, filled, is_directory_at, named_no_directory}
+use Rattle.runs.proofs.Resyncs.{Turned, all_calm, each, turned_directory}
+use Rattle.runs.proofs.Shadows.{calm_no_table, directory_here, filled, is_directory_at, named_no_directory}
 use Rattle.runs.proofs.Sound.{Linked, Raises, Sound, guards, named, opens, piece_opens}
 use Rattle.runs.proofs.Sounds.{sound_empty, sound_store}
 use Rattle.runs.proofs.Taking.{Got, free_any, got, told_fit}
 use Rattle.runs.proofs.Views.{v_put, view}
-use Rattle.runs.proofs.Walking.{guest_faulted}
+use Rattle.runs.proofs.Walking.{guest_walked}
 use Rattle.runs.proofs.Windows.{present, table_index_small, word_index_small}
 
 target_alike : (F : Format) (a b : Asked) (root : ℕ) (t : SlotTable) → a.kind ≡ b.kind → page_of a.address ≡ page_of b.address → a.privilege ≡ b.privilege → hit_target F b root t ≡ hit_target F a root t
@@ -89,36 +88,17 @@ module _ (F : Format) (laws : LawsOfMarking F) (R : Rule) (kept_order : OrdersKe
         (λ e. sound_store F m (view r.table) good.fit.sound f (word_index a.address) w (word_index_small a.address) (store_free a f (eqb-true a.kind store e) hit))
         (λ e. good.fit.sound)
 
-    hit_good : (a : Asked) (w f : ℕ) (q : List ℕ) (g : Hart) → g.root ≡ root → g.mode ≡ r.hart.mode → Tallied (went a w (hit_answer a w m f) ∷ h) g.tallies → Fit F m r.table q → hit_target F a root r.table ≡ Some f → Hit F a r.table I f
-        → Good F o (went a w (hit_answer a w m f) ∷ h) (record { table = r.table; order = q; hart = g })
-    hit_good a w f q g re me tallied fit hits hit = record {
-      root = re ∙ good.root;
-      mode = me ∙ good.mode;
-      fit = refit fit _ r.table fit.roomy refl (hit_sound a w f hit);
-      rooted = subst (λ (n : ℕ). shadow_at (root_slot n r.table) r.table ≡ Directory n) (sym re) good.rooted;
-      were = λ i k e never. good.were i k e never.1;
-      raised = (raises_refl F m, tt, good.raised);
-      tallied = tallied;
-      bounded = good.bounded;
-      past = subst (λ (n : ℕ). Past F o (went a w (hit_answer a w m f) ∷ h) n (view r.table)) (sym re) (λ i b u k x y c z e l lag leaf. earlier refl (good.past i b u k x y c z e l lag leaf));
-      ready = subst (λ (n : ℕ). (b : Asked) → Recent o b.kind (page_of b.address) b.privilege (went a w (hit_answer a w m f) ∷ h) → is_some (hit_target F b n r.table) ≡ true) (sym re) ready;
-    }
-      where
-        ready : (b : Asked) → Recent o b.kind (page_of b.address) b.privilege (went a w (hit_answer a w m f) ∷ h) → is_some (hit_target F b root r.table) ≡ true
-        ready b (just k x v free) = ap is_some (target_alike F a b root r.table k x v ∙ hits)
-        ready b (laws_of.since e z) = good.ready b z
+    -- CALLS THAT LEAVE SLOTS
 
-    -- CALLS THAT LEAVE SLOTS AND MEMORY
-
-    -- an event that writes nothing, covers nothing and leaves the root
-    still_good : (e : Event) (g : Hart) → marks_in e ≡ [] → stores_in e ≡ [] → ((p : ℕ) → covers e p ≡ false) → root_at o (e ∷ h) ≡ root_at o h
-        → g.root ≡ root → g.mode ≡ mode_at o (e ∷ h) → Tallied (e ∷ h) g.tallies
+    -- an event without marks that covers nothing and leaves the root
+    still_good : (e : Event) (q : List ℕ) (g : Hart) → marks_in e ≡ [] → ((p : ℕ) → covers e p ≡ false) → root_at o (e ∷ h) ≡ root_at o h
+        → g.root ≡ root → g.mode ≡ mode_at o (e ∷ h) → Tallied (e ∷ h) g.tallies → Fit F (memory_at o (e ∷ h)) r.table q
         → ((b : Asked) → Recent o b.kind (page_of b.address) b.privilege (e ∷ h) → is_some (hit_target F b root r.table) ≡ true)
-        → Good F o (e ∷ h) (record { table = r.table; order = r.order; hart = g })
-    still_good e g marks stores cover root_same re me tallied ready = record {
+        → Good F o (e ∷ h) (record { table = r.table; order = q; hart = g })
+    still_good e q g marks cover root_same re me tallied fit ready = record {
       root = re ∙ good.root ∙ sym root_same;
       mode = me;
-      fit = subst (λ n. Fit F n r.table r.order) (sym same_memory) good.fit;
+      fit = fit;
       rooted = subst (λ (n : ℕ). shadow_at (root_slot n r.table) r.table ≡ Directory n) (sym re) good.rooted;
       were = λ i k z never. good.were i k z never.1;
       raised = (subst (λ xs. Raises F m (put_all m xs)) (sym marks) (raises_refl F m), subst SmallWrites (sym marks) tt, good.raised);
@@ -127,29 +107,33 @@ module _ (F : Format) (laws : LawsOfMarking F) (R : Rule) (kept_order : OrdersKe
       past = subst (λ (n : ℕ). Past F o (e ∷ h) n (view r.table)) (sym re) (λ i b u k x y c z q l lag leaf. earlier (cover (page_of b)) (good.past i b u k x y c z q l lag leaf));
       ready = subst (λ (n : ℕ). (b : Asked) → Recent o b.kind (page_of b.address) b.privilege (e ∷ h) → is_some (hit_target F b n r.table) ≡ true) (sym re) ready;
     }
+
+    hit_good : (a : Asked) (w f : ℕ) (q : List ℕ) (g : Hart) → g.root ≡ root → g.mode ≡ r.hart.mode → Tallied (went a w (hit_answer a w m f) ∷ h) g.tallies → Fit F m r.table q → hit_target F a root r.table ≡ Some f → Hit F a r.table I f
+        → Good F o (went a w (hit_answer a w m f) ∷ h) (record { table = r.table; order = q; hart = g })
+    hit_good a w f q g re me tallied fit hits hit =
+        still_good (went a w (hit_answer a w m f)) q g refl (λ p. refl) refl re (me ∙ good.mode) tallied (refit fit _ r.table fit.roomy refl (hit_sound a w f hit)) ready
       where
-        same_memory : memory_at o (e ∷ h) ≡ m
-        same_memory = ap (λ xs. put_all (put_all m xs) (stores_in e)) marks ∙ ap (put_all m) stores
+        ready : (b : Asked) → Recent o b.kind (page_of b.address) b.privilege (went a w (hit_answer a w m f) ∷ h) → is_some (hit_target F b root r.table) ≡ true
+        ready b (just k x v free) = ap is_some (target_alike F a b root r.table k x v ∙ hits)
+        ready b (laws_of.since e z) = good.ready b z
 
-    fault_ready : (a : Asked) (x : Failure) (b : Asked) → Recent o b.kind (page_of b.address) b.privilege (failed a x ∷ h) → is_some (hit_target F b root r.table) ≡ true
-    fault_ready a x b (laws_of.since e z) = absurd (omega arith)
-
-    mode_ready : (p : ℕ) (b : Asked) → Recent o b.kind (page_of b.address) b.privilege (moded p ∷ h) → is_some (hit_target F b root r.table) ≡ true
-    mode_ready p b (laws_of.since e z) = good.ready b z
-
-    settled_ready : (b : Asked) → Recent o b.kind (page_of b.address) b.privilege (settled ∷ h) → is_some (hit_target F b root r.table) ≡ true
-    settled_ready b (laws_of.since e z) = good.ready b z
+    -- after an event that is no access that came through, a recent one came before it, and the event has no exit
+    came_before : {A : Asked → Type 0} (e : Event) → ((a : Asked) (w : ℕ) (x : Through) → e ≡ went a w x → ⊥)
+        → (exit_of e ≡ no_exit → (b : Asked) → Recent o b.kind (page_of b.address) b.privilege h → A b)
+        → (b : Asked) → Recent o b.kind (page_of b.address) b.privilege (e ∷ h) → A b
+    came_before e other before b (just {a} {w} {r = x} k p v free) = absurd (other a w x refl)
+    came_before e other before b (laws_of.since q z) = before q b z
 
     fault_lawful : (a : Asked) (x : Failure) → a.privilege ≡ mode_at o h → hit_target F a root r.table ≡ None → walk_from F a m root ≡ faulted x → LawfulFault F o h a x
     fault_lawful a x privilege none e = record {
       privileged = privilege;
       window = present o _ (page_of a.address) h by_root;
       present = by_root;
-      exit = λ recent. untrue (sym (ap is_some none) ∙ good.ready a recent);
+      exit = λ recent. cc (good.ready a recent);
     }
       where
         by_root : guest_walk F a (root_at o h) m ≡ fault x
-        by_root = subst (λ (k : ℕ). guest_walk F a k m ≡ fault x) good.root (guest_faulted F a root m e)
+        by_root = subst (λ (k : ℕ). guest_walk F a k m ≡ fault x) good.root (guest_walked F a root m e)
 
     -- ACCESSES
 
@@ -163,7 +147,7 @@ module _ (F : Format) (laws : LawsOfMarking F) (R : Rule) (kept_order : OrdersKe
     )
     walk_fine a w privilege none (faulted x) e = (
       fault_lawful a x privilege none e,
-      λ k z. goes_on _ _ _ refl (still_good (failed a x) _ refl refl (λ p. refl) refl refl good.mode (tallied_more (failed a x) 0 h r.hart.tallies refl good.tallied) (fault_ready a x)) k z,
+      λ k z. goes_on _ _ _ refl (still_good (failed a x) _ _ refl (λ p. refl) refl refl good.mode (tallied_more (failed a x) 0 h r.hart.tallies refl good.tallied) good.fit (came_before (failed a x) (λ b u y q. cc) (λ q. absurd (omega arith)))) k z,
     )
 
     access_fine : (a : Asked) (w : ℕ) → a.privilege ≡ mode_at o h → FineAccess a w (access_ends R F s r a w)
@@ -180,31 +164,11 @@ module _ (F : Format) (laws : LawsOfMarking F) (R : Rule) (kept_order : OrdersKe
 
     -- FLUSHES
 
-    flush_silent : {A : Type 0} (b : Asked) → Recent o b.kind (page_of b.address) b.privilege (flushed_all ∷ h) → A
-    flush_silent b (laws_of.since e z) = absurd (omega arith)
-
-    page_silent : {A : Type 0} (a : ℕ) (b : Asked) → Recent o b.kind (page_of b.address) b.privilege (flushed_page a ∷ h) → A
-    page_silent a b (laws_of.since e z) = absurd (omega arith)
-
-    switch_silent : {A : Type 0} (f : ℕ) (b : Asked) → Recent o b.kind (page_of b.address) b.privilege (switched f ∷ h) → A
-    switch_silent f b (laws_of.since e z) = absurd (omega arith)
-
-    -- slots where each shadows what it did have the same directories
-    dir_kept : (n : SlotTable) → ((k : ℕ) (x : Thing) → shadows (shadow_at k n) x ≡ shadows (shadow_at k r.table) x) → (i f : ℕ)
-        → (shadow_at i n ≡ Directory f → shadow_at i r.table ≡ Directory f) × (shadow_at i r.table ≡ Directory f → shadow_at i n ≡ Directory f)
-    dir_kept n things i f = (
-      λ e. is_directory_at f (shadow_at i r.table) (sym (things i (thing.Directory f)) ∙ ap (is_directory_of f) e ∙ directory_here f),
-      λ e. is_directory_at f (shadow_at i n) (things i (thing.Directory f) ∙ ap (is_directory_of f) e ∙ directory_here f),
-    )
-
-    lag_clash : {A : Type 0} (n : SlotTable) → ((k : ℕ) → lags (shadow_at k n) ≡ false) → (k f : ℕ) → shadow_at k n ≡ Table f Unsynchronised → A
-    lag_clash n calm k f e = let c : true ≡ false = sym (ap lags e) ∙ calm k in clash cc
-
     all_turned : Turned r.table (resync_all m r.table)
-    all_turned = (each F m (0 ∷ 1 ∷ 2 ∷ 3 ∷ 4 ∷ 5 ∷ 6 ∷ 7 ∷ []) r.table r.order good.fit).turned
+    all_turned = (each F m (numbered 8) r.table r.order good.fit).turned
 
     all_fit : Fit F m (resync_all m r.table) r.order
-    all_fit = (each F m (0 ∷ 1 ∷ 2 ∷ 3 ∷ 4 ∷ 5 ∷ 6 ∷ 7 ∷ []) r.table r.order good.fit).fit
+    all_fit = (each F m (numbered 8) r.table r.order good.fit).fit
 
     flush_good : Good F o (flushed_all ∷ h) (record { table = resync_all m r.table; order = r.order; hart = count_in flush 0 r.hart })
     flush_good = record {
@@ -212,16 +176,16 @@ module _ (F : Format) (laws : LawsOfMarking F) (R : Rule) (kept_order : OrdersKe
       mode = good.mode;
       fit = all_fit;
       rooted = ap (λ (i : ℕ). shadow_at i (resync_all m r.table)) (root_slot_is F m (resync_all m r.table) r.order all_fit root I at) ∙ at;
-      were = λ i k e never. good.were i k ((dir_kept (resync_all m r.table) all_turned.things i k).0 e) never.1;
+      were = λ i k e never. good.were i k ((turned_directory all_turned i k).0 e) never.1;
       raised = (raises_refl F m, tt, good.raised);
       tallied = tallied_more flushed_all 0 h r.hart.tallies refl good.tallied;
       bounded = good.bounded;
-      past = λ i b u k x y c z e l lag leaf. lag_clash (resync_all m r.table) (all_calm F m r.table r.order good.fit) k x lag;
-      ready = λ b z. flush_silent b z;
+      past = λ i b u k x y c z e l lag leaf. calm_no_table (all_calm F m r.table r.order good.fit k) lag;
+      ready = came_before flushed_all (λ b u y q. cc) (λ q. absurd (omega arith));
     }
       where
         at : shadow_at I (resync_all m r.table) ≡ Directory root
-        at = (dir_kept (resync_all m r.table) all_turned.things I root).1 good.rooted
+        at = (turned_directory all_turned I root).1 good.rooted
 
     -- a page flush: the leaf of the page is gone
     record Dropped (a : ℕ) (n : SlotTable) : Type 0 where
@@ -246,7 +210,7 @@ module _ (F : Format) (laws : LawsOfMarking F) (R : Rule) (kept_order : OrdersKe
     }
       where
         l : Linked F m (view r.table) I (directory_index a) w k
-        l = good.fit.sound.links I (directory_index a) w k e
+        l = good.fit.sound.framed.links I (directory_index a) w k e
 
         slot : k < 8
         slot = small_slot r.table k good.fit.roomy (filled (shadow_at k r.table) (named F w) l.names)
@@ -264,10 +228,8 @@ module _ (F : Format) (laws : LawsOfMarking F) (R : Rule) (kept_order : OrdersKe
     page_dropped a = go (place_at I (directory_index a) r.table) refl
       where
         go : (x : Place) → place_at I (directory_index a) r.table ≡ x → Dropped a (drop_below (table_index a) r.table x)
-        go Empty e = undropped a Empty e (λ w k z. clash cc)
         go (Link w k) e = dropped_link a w k e
-        go (Leaf w c b) e = undropped a (Leaf w c b) e (λ u k z. clash cc)
-        go (Piece b) e = undropped a (Piece b) e (λ u k z. clash cc)
+        go x e = undropped a x e (λ w k z. cc)
 
     page_good : (a : ℕ) → Good F o (flushed_page a ∷ h) (record { table = drop_page root a r.table; order = r.order; hart = count_in flush 0 r.hart })
     page_good a = record {
@@ -280,7 +242,7 @@ module _ (F : Format) (laws : LawsOfMarking F) (R : Rule) (kept_order : OrdersKe
       tallied = tallied_more (flushed_page a) 0 h r.hart.tallies refl good.tallied;
       bounded = good.bounded;
       past = λ i b u k x y c z e l lag leaf. ⊎_elim (λ q. absurd (covered i b u k y c z q e l leaf)) (λ q. uncovered i b u k x y c z q e l lag leaf) (cases_eq (page_of a) (page_of b));
-      ready = λ b z. page_silent a b z;
+      ready = came_before (flushed_page a) (λ b u y q. cc) (λ q. absurd (omega arith));
     }
       where
         d : Dropped a (drop_page root a r.table)
@@ -296,10 +258,9 @@ module _ (F : Format) (laws : LawsOfMarking F) (R : Rule) (kept_order : OrdersKe
             → place_at k (table_index b) (drop_page root a r.table) ≡ Leaf y c z → ⊥
         covered i b u k y c z q e l leaf =
             let p = same_page a b q in
-            let own : i ≡ I = d.fit.sound.unique i I (thing.Directory root) (ap (is_directory_of root) e ∙ directory_here root) (ap (is_directory_of root) at ∙ directory_here root) in
+            let own : i ≡ I = d.fit.sound.framed.unique i I (thing.Directory root) (ap (is_directory_of root) e ∙ directory_here root) (ap (is_directory_of root) at ∙ directory_here root) in
             let link : place_at I (directory_index a) (drop_page root a r.table) ≡ Link u k = ap (λ (n : ℕ). place_at I n (drop_page root a r.table)) p.0 ∙ ap (λ (n : ℕ). place_at n (directory_index b) (drop_page root a r.table)) (sym own) ∙ l in
-            let empty : Empty ≡ Leaf y c z = sym (d.gone u k link) ∙ ap (λ (n : ℕ). place_at k n (drop_page root a r.table)) p.1 ∙ leaf in
-            clash cc
+            cc (d.gone u k link, ap (λ (n : ℕ). place_at k n (drop_page root a r.table)) p.1, leaf)
 
         uncovered : (i b u k x y c : ℕ) (z : Bool) → (page_of a ≡ page_of b → ⊥) → shadow_at i (drop_page root a r.table) ≡ Directory root → place_at i (directory_index b) (drop_page root a r.table) ≡ Link u k
             → shadow_at k (drop_page root a r.table) ≡ Table x Unsynchronised → place_at k (table_index b) (drop_page root a r.table) ≡ Leaf y c z → Sometime o (Then F root b u x y) (page_of b) (flushed_page a ∷ h)
@@ -320,14 +281,14 @@ module _ (F : Format) (laws : LawsOfMarking F) (R : Rule) (kept_order : OrdersKe
       fit = k.fit;
       rooted = subst (λ (n : ℕ). shadow_at (root_slot n (T f).table) (T f).table ≡ Directory n) (sym re) (ap (λ (i : ℕ). shadow_at i (T f).table) (root_slot_is F m (T f).table (T f).order k.fit f (T f).slot at) ∙ at);
       were = λ i n e never. ⊎_elim
-          (λ z. good.were i n ((dir_kept (resync_all m r.table) all_turned.things i n).0 z) never.1)
+          (λ z. good.were i n ((turned_directory all_turned i n).0 z) never.1)
           (λ z. let u : f ≡ n = cc in never.0 u)
           (k.dirs i n e);
       raised = (raises_refl F m, tt, good.raised);
       tallied = tallied;
       bounded = good.bounded;
-      past = λ i b u s x y c z e l lag leaf. lag_clash (resync_all m r.table) (all_calm F m r.table r.order good.fit) s x (k.fewer.lagging s x lag);
-      ready = λ b z. switch_silent f b z;
+      past = λ i b u s x y c z e l lag leaf. calm_no_table (all_calm F m r.table r.order good.fit s) (k.fewer.lagging s x lag);
+      ready = came_before (switched f) (λ b u y q. cc) (λ q. absurd (omega arith));
     }
       where
         k : Got F R kept_order m None (thing.Directory f) (resync_all m r.table) (T f)
@@ -347,26 +308,13 @@ module _ (F : Format) (laws : LawsOfMarking F) (R : Rule) (kept_order : OrdersKe
 
     refused_fine : (c : Call) (n : ℕ) → Fine c (refuse s n)
     refused_fine (open_run f k) n = (tt, same_run)
-    refused_fine (access k a w) n = (tt, same_run)
-    refused_fine flush_all n = (tt, same_run)
-    refused_fine (flush_page a) n = (tt, same_run)
-    refused_fine (switch_root f) n = (tt, same_run)
-    refused_fine (set_mode p) n = (tt, same_run)
-    refused_fine (deliver x) n = (tt, same_run)
-    refused_fine (give_up x) n = (tt, same_run)
-    refused_fine close_run n = (tt, same_run)
-    refused_fine (poke f i w) n = (tt, same_run)
-
-    -- one way or the other
-    either_fine : (c : Call) (b : Bool) (x y : Ended) → (b ≡ true → Fine c x) → (b ≡ false → Fine c y) → Fine c (cond b x y)
-    either_fine c true x y p q = p refl
-    either_fine c false x y p q = q refl
+    refused_fine c n = (tt, same_run)
 
     pending_fine : (c : Call) (e : Ended) → Fine c e → Fine c (unless_pending s r e)
-    pending_fine c e p = either_fine c (is_some r.hart.pending) (refuse s 6) e (λ z. refused_fine c 6) (λ z. p)
+    pending_fine c e p = cond_both (is_some r.hart.pending) (refuse s 6) e (Fine c) (λ z. refused_fine c 6) (λ z. p)
 
     full_fine : (c : Call) (e : Ended) → Fine c e → Fine c (unless_full s r e)
-    full_fine c e p = pending_fine c _ (either_fine c (leb call_limit r.hart.tallies.calls) (refuse s 7) e (λ z. refused_fine c 7) (λ z. p))
+    full_fine c e p = pending_fine c _ (cond_both (leb call_limit r.hart.tallies.calls) (refuse s 7) e (Fine c) (λ z. refused_fine c 7) (λ z. p))
 
     -- the access is made at the privilege in force
     asked_same : (k a : ℕ) → asked_in r k a ≡ asked_now F o h k a
@@ -377,24 +325,25 @@ module _ (F : Format) (laws : LawsOfMarking F) (R : Rule) (kept_order : OrdersKe
         let e : Ended = access_ends R F s r (asked_in r k a) w in
         subst (λ q. LawfulAnswer F o h q e.reply × Next (after_access q w h e.reply) e) (asked_same k a) (access_fine (asked_in r k a) w good.mode)
 
+    settled_next : (l : Option RecordedFault) → Next (settled ∷ h) (settled_as s r l)
+    settled_next l k e =
+        goes_on _ _ _ refl
+        (still_good settled _ _ refl (λ n. refl) refl refl good.mode (tallied_still settled h r.hart.tallies refl good.tallied) good.fit (came_before settled (λ b u y q. cc) (λ q. good.ready))) k e
+
     pub call_fine : (c : Call) → Fine c (in_run R F s r c)
     call_fine (open_run f k) = refused_fine (open_run f k) 1
     call_fine (access k a w) =
-        full_fine (access k a w) _ (either_fine (access k a w) (eqb (a % 4) 0) _ (refuse s 5) (λ z. call_access k a w) (λ z. refused_fine (access k a w) 5))
+        full_fine (access k a w) _ (cond_both (eqb (a % 4) 0) _ (refuse s 5) (Fine (access k a w)) (λ z. call_access k a w) (λ z. refused_fine (access k a w) 5))
     call_fine flush_all = full_fine flush_all _ (refl, λ k z. goes_on _ _ _ refl flush_good k z)
     call_fine (flush_page a) = full_fine (flush_page a) _ (refl, λ k z. goes_on _ _ _ refl (page_good a) k z)
     call_fine (switch_root f) =
-        full_fine (switch_root f) _ (either_fine (switch_root f) (has_words (m f)) _ (refuse s 3) (λ z. switched_fine f z) (λ z. refused_fine (switch_root f) 3))
+        full_fine (switch_root f) _ (cond_both (has_words (m f)) _ (refuse s 3) (Fine (switch_root f)) (λ z. switched_fine f z) (λ z. refused_fine (switch_root f) 3))
       where
         switched_fine : (f : ℕ) → has_words (m f) ≡ true → Fine (switch_root f) (switch_ends R s r f)
         switched_fine f has = unfold switch_ends in (refl, λ k z. goes_on _ _ _ refl (switch_good f has _ refl refl (tallied_more (switched f) _ h r.hart.tallies refl good.tallied)) k z)
     call_fine (set_mode p) =
-        pending_fine (set_mode p) _ (refl, λ k z. goes_on _ _ _ refl (still_good (moded p) _ refl refl (λ n. refl) refl refl refl (tallied_still (moded p) h r.hart.tallies refl good.tallied) (mode_ready p)) k z)
-    call_fine (deliver x) =
-        either_fine (deliver x) (is_pending x r.hart.pending) _ (refuse s 10)
-        (λ z. (refl, λ k e. goes_on _ _ _ refl (still_good settled _ refl refl (λ n. refl) refl refl good.mode (tallied_still settled h r.hart.tallies refl good.tallied) settled_ready) k e)) (λ z. refused_fine (deliver x) 10)
-    call_fine (give_up x) =
-        either_fine (give_up x) (is_pending x r.hart.pending) _ (refuse s 10)
-        (λ z. (refl, λ k e. goes_on _ _ _ refl (still_good settled _ refl refl (λ n. refl) refl refl good.mode (tallied_still settled h r.hart.tallies refl good.tallied) settled_ready) k e)) (λ z. refused_fine (give_up x) 10)
-    call_fine close_run = pending_fine close_run _ (good.tallied, λ k z. clash cc)
+        pending_fine (set_mode p) _ (refl, λ k z. goes_on _ _ _ refl (still_good (moded p) _ _ refl (λ n. refl) refl refl refl (tallied_still (moded p) h r.hart.tallies refl good.tallied) good.fit (came_before (moded p) (λ b u y q. cc) (λ q. good.ready))) k z)
+    call_fine (deliver x) = cond_both (is_pending x r.hart.pending) _ (refuse s 10) (Fine (deliver x)) (λ z. (refl, settled_next _)) (λ z. refused_fine (deliver x) 10)
+    call_fine (give_up x) = cond_both (is_pending x r.hart.pending) _ (refuse s 10) (Fine (give_up x)) (λ z. (refl, settled_next _)) (λ z. refused_fine (give_up x) 10)
+    call_fine close_run = pending_fine close_run _ (good.tallied, λ k z. cc)
     call_fine (poke f i w) = refused_fine (poke f i w) 1

@@ -1,14 +1,12 @@
 -- Slots that hold no more than others did: their links, their unsynchronised tables and their leaves, flags aside, were there.
-use Rattle.std.proofs.Common.{◌≡◌, ℕ, Bool, true, false, cond, ◌&&◌, eqb}
+use Rattle.std.proofs.lemmas.Bool.Decides.{nat_tests}
+use Rattle.std.proofs.Common.{◌≡◌, ℕ, Bool, ◌&&◌, eqb, arith}
 use Rattle.memory.specs.Memory.{Memory}
-use Rattle.slot.specs.Slot.{copies, shadow_of}
-use Rattle.slot.specs.declared.slots.Place.{Place}
+use Rattle.slot.specs.Slot.{copies}
 use Rattle.slot.specs.declared.slots.Place.TheVariants.{Empty, Link, Leaf}
-use Rattle.slot.specs.declared.slots.Shadow.{Shadow}
 use Rattle.slot.specs.declared.slots.Shadow.TheVariants.{Directory, Table}
 use Rattle.slot.specs.declared.slots.SyncState.TheVariants.{Unsynchronised}
 use Rattle.slot.specs.declared.slots.Thing.{Thing}
-use Rattle.runs.proofs.Basics.{clash, cond_other}
 use Rattle.runs.proofs.Losses.{Less, checked_less, guard_at_less, kept, less_cond, less_leaf, less_link, unlink_less}
 use Rattle.runs.proofs.Shadows.{new_protected}
 use Rattle.runs.proofs.Views.{View, v_check, v_checked, v_drop, v_evict, v_fill, v_guard, v_put}
@@ -52,22 +50,17 @@ fewer_guard f v = fewer_less (λ i j. guard_at_less f j (v.sh i) (v.pl i j)) (λ
 
 pub fewer_check : (m : Memory) (i f : ℕ) (v : View) → Fewer v (v_check m i f v)
 unfolding v_check
-fewer_check m i f v = fewer_trans (fewer_less (checked_less m i f v) (λ k d w s r e. cond_other (eqb k i) (λ z. clash cc)) (λ k g. cond_other (eqb k i) (λ z. clash cc))) (fewer_guard f (v_checked m i f v))
+fewer_check m i f v = fewer_trans (fewer_less (checked_less m i f v) (λ k d w s r e q. grind (arith, nat_tests)) (λ k g e. grind (arith, nat_tests))) (fewer_guard f (v_checked m i f v))
 
 module _ (i : ℕ) (v : View) where
   pub fewer_evict : Fewer v (v_evict i v)
   unfolding v_evict
   fewer_evict =
-      fewer_less (λ k j. less_cond (eqb k i) (unlink_less i (v.sh k) (v.pl k j))) (λ k d w s r e. cond_other (eqb k i) (λ z. clash cc)) (λ k g. cond_other (eqb k i) (λ z. clash cc))
+      fewer_less (λ k j. less_cond (eqb k i) (unlink_less i (v.sh k) (v.pl k j))) (λ k d w s r e q. grind (arith, nat_tests)) (λ k g e. grind (arith, nat_tests))
 
   pub fewer_fill : (x : Thing) → Fewer v (v_fill i x v)
   unfolding v_fill
-  fewer_fill x = fewer_less (λ k j. less_cond (eqb k i) kept) (λ k d w s r. roots (eqb k i) (v.pl k d) (v.sh k) w s r) (λ k g. cond_other (eqb k i) (new_protected x g))
-    where
-      -- the slot that is filled has no link
-      roots : (t : Bool) (p : Place) (y : Shadow) (w s r : ℕ) → cond t Empty p ≡ Link w s → cond t (shadow_of x) y ≡ Directory r → y ≡ Directory r
-      roots true p y w s r e q = clash cc
-      roots false p y w s r e q = q
+  fewer_fill x = fewer_less (λ k j. less_cond (eqb k i) kept) (λ k d w s r e q. grind (arith, nat_tests)) (λ k g e. grind (arith, nat_tests, new_protected x g))
 
   pub fewer_drop : (j : ℕ) → Fewer v (v_drop i j v)
   unfolding v_drop

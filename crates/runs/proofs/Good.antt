@@ -1,9 +1,10 @@
 -- What holds of a run at every point: between calls the slots are true to guest memory, and what they hold of the past had its
 -- moment.
-use Rattle.std.proofs.Common.{◌≡◌, ℕ, ◌<◌, ◌≤◌, Bool, true, List, is_some, sym, subst}
+use Rattle.std.proofs.lemmas.Bool.Decides.{nat_tests}
+use Rattle.std.proofs.Common.{◌≡◌, ℕ, zero, suc, ◌+◌, ◌<◌, ◌≤◌, Bool, true, List, is_some, sym, subst, arith}
 use Rattle.memory.specs.Memory.{Memory}
 use Rattle.paging.specs.Formats.{Format}
-use Rattle.policies.specs.Orders.{times}
+use Rattle.policies.specs.Orders.{rising, times}
 use Rattle.shadow.specs.Slots.{shadow_at}
 use Rattle.slot.specs.declared.slots.Place.TheVariants.{Link, Leaf}
 use Rattle.slot.specs.declared.slots.Shadow.TheVariants.{Directory, Table}
@@ -18,6 +19,11 @@ use Rattle.runs.specs.Unit.{Running, hit_target, root_slot}
 use Rattle.runs.proofs.Moments.{Raised}
 use Rattle.runs.proofs.Sound.{Sound, Up}
 use Rattle.runs.proofs.Views.{Roomy, View, view}
+
+-- each number of a rising order stands in it
+pub rising_holds : (a k i : ℕ) → a ≤ i → i < a + k → 0 < times i (rising a k)
+rising_holds a zero i l u = absurd (omega arith)
+rising_holds a (suc k) i l u = grind (arith, nat_tests, rising_holds (suc a) k i)
 
 -- slots and an order that belong together, over a memory
 pub record Fit (F : Format) (m : Memory) (t : SlotTable) (q : List ℕ) : Type 0 where

@@ -41,7 +41,7 @@ module _ (F : Format) (laws : LawsOfMarking F) (o : Opening) (h : History) (r : 
   J = table_index a.address
 
   root_has : has_words (m R) ≡ true
-  root_has = subst (Backed m) good.rooted (good.fit.sound.backed I)
+  root_has = subst (Backed m) good.rooted (good.fit.sound.framed.backed I)
 
   moved : (n : Memory) → SameFrames o n → (f : ℕ) → has_words (m f) ≡ true → has_words (n f) ≡ true
   moved n same f e = same f ∙ sym (has_at o h f) ∙ e
@@ -54,9 +54,9 @@ module _ (F : Format) (laws : LawsOfMarking F) (o : Opening) (h : History) (r : 
   piece_walk : (w s g : ℕ) (b : Bool) → place_at I D r.table ≡ Link w s → shadow_at s r.table ≡ Split g → place_at s J r.table ≡ Piece b
       → HitsLarge F a.kind a.privilege w b → guest_walk F a R m ≡ to (g + J) []
   piece_walk w s g b p y q z =
-      let l = good.fit.sound.links I D w s p in
+      let l = good.fit.sound.framed.links I D w s p in
       let n = named_split (F.reads directory_level w) g (subst (λ x. shadows x (named F w) ≡ true) y l.names) in
-      let k = good.fit.sound.pieces s J b q in
+      let k = good.fit.sound.framed.pieces s J b q in
       let e : k.first ≡ g = cc (k.is, y) in
       walk_large F laws a R m root_has (link_up w s p) l.leads n.0 n.1
       (subst (λ (x : ℕ). has_words (m (x + J)) ≡ true) e k.target) z.allows z.upper
@@ -65,53 +65,59 @@ module _ (F : Format) (laws : LawsOfMarking F) (o : Opening) (h : History) (r : 
   leaf_walk : (w s x f g : ℕ) (b : Bool) (y : SyncState) → place_at I D r.table ≡ Link w s → place_at s J r.table ≡ Leaf x f b → shadow_at s r.table ≡ Table g y
       → HitsSmall F a.kind a.privilege w x b → (n : Memory) → SameFrames o n → Up F w (word_at n R D) → Up F x (word_at n g J) → guest_walk F a R n ≡ to f []
   leaf_walk w s x f g b y p q i z n same u v =
-      let l = good.fit.sound.links I D w s p in
+      let l = good.fit.sound.framed.links I D w s p in
       let k = named_table (F.reads directory_level w) g y (subst (λ x. shadows x (named F w) ≡ true) i l.names) in
-      let e = good.fit.sound.leaves s J x f b q in
+      let e = good.fit.sound.framed.leaves s J x f b q in
       walk_small F laws a R n (moved n same R root_has) u l.leads k.0 k.1
-      (moved n same g (subst (Backed m) i (good.fit.sound.backed s))) v e.pages (moved n same f e.target) z.allows z.upper z.lower
+      (moved n same g (subst (Backed m) i (good.fit.sound.framed.backed s))) v e.pages (moved n same f e.target) z.allows z.upper z.lower
 
   -- a protected table's word is the guest's, but for marks
   leaf_up : (s x f g : ℕ) (b : Bool) → place_at s J r.table ≡ Leaf x f b → shadow_at s r.table ≡ Table g Protected → Up F x (word_at m g J)
   leaf_up s x f g b q i = leaf_now F m (view r.table) good.fit.sound s J g x f b i q
 
-  window : (f : ℕ) → Hit F a r.table I f → Sometime o (λ n. guest_walk F a R n ≡ to f []) (page_of a.address) h
-  window _ (by_piece {w} {s} {g} {b} p y q z) = present o _ (page_of a.address) h (piece_walk w s g b p y q z)
-  window _ (by_leaf {w} {s} {x} {f} {b} p q z) = go e.state e.is
+  -- P, where the access hits by a leaf of an unsynchronised table
+  abbrev Lagging : ℕ → Type 0 → Type 0
+  Lagging f P =
+      (w s x g : ℕ) (b : Bool) → place_at I D r.table ≡ Link w s → place_at s J r.table ≡ Leaf x f b → shadow_at s r.table ≡ Table g Unsynchronised
+      → HitsSmall F a.kind a.privilege w x b → P
+
+  -- the walk goes so now, or the access hits by a leaf of an unsynchronised table
+  by_state : (f : ℕ) (P : Type 0) → Hit F a r.table I f → (guest_walk F a R m ≡ to f [] → P)
+      → Lagging f P → P
+  by_state _ P (by_piece {w} {s} {g} {b} p y q z) now lagging = now (piece_walk w s g b p y q z)
+  by_state _ P (by_leaf {w} {s} {x} {f} {b} p q z) now lagging = go e.state e.is
     where
       e : Leafed F m (view r.table) s J x f
-      e = good.fit.sound.leaves s J x f b q
+      e = good.fit.sound.framed.leaves s J x f b q
 
-      go : (y : SyncState) → shadow_at s r.table ≡ Table e.frame y → Sometime o (λ n. guest_walk F a R n ≡ to f []) (page_of a.address) h
-      go Protected i = present o _ (page_of a.address) h (leaf_walk w s x f e.frame b Protected p q i z m (has_at o h) (link_up w s p) (leaf_up s x f e.frame b q i))
-      go Unsynchronised i =
-          sometime_has o {P = Then F R a.address w e.frame x} (λ n same u. leaf_walk w s x f e.frame b Unsynchronised p q i z n same u.0 u.1)
-          (good.past I a.address w s e.frame x f b good.rooted p i q)
+      go : (y : SyncState) → shadow_at s r.table ≡ Table e.frame y → P
+      go Protected i = now (leaf_walk w s x f e.frame b Protected p q i z m (has_at o h) (link_up w s p) (leaf_up s x f e.frame b q i))
+      go Unsynchronised i = lagging w s x e.frame b p q i z
+
+  window : (f : ℕ) → Hit F a r.table I f → Sometime o (λ n. guest_walk F a R n ≡ to f []) (page_of a.address) h
+  window f hit = by_state f _ hit (present o _ (page_of a.address) h)
+      (λ w s x g b p q i z. sometime_has o {P = Then F R a.address w g x} (λ n same u. leaf_walk w s x f g b Unsynchronised p q i z n same u.0 u.1)
+      (good.past I a.address w s g x f b good.rooted p i q))
 
   undisturbed : (f : ℕ) → Hit F a r.table I f → Unstored (words_read F a R m) (page_of a.address) h → guest_walk F a R m ≡ to f []
-  undisturbed _ (by_piece {w} {s} {g} {b} p y q z) u = piece_walk w s g b p y q z
-  undisturbed _ (by_leaf {w} {s} {x} {f} {b} p q z) u = go e.state e.is
+  undisturbed f hit u = by_state f _ hit (λ e. e) lagging
     where
-      e : Leafed F m (view r.table) s J x f
-      e = good.fit.sound.leaves s J x f b q
-
-      go : (y : SyncState) → shadow_at s r.table ≡ Table e.frame y → guest_walk F a R m ≡ to f []
-      go Protected i = leaf_walk w s x f e.frame b Protected p q i z m (has_at o h) (link_up w s p) (leaf_up s x f e.frame b q i)
-      go Unsynchronised i =
-          let l = good.fit.sound.links I D w s p in
-          let k = named_table (F.reads directory_level w) e.frame Unsynchronised (subst (λ x. shadows x (named F w) ≡ true) i l.names) in
-          let read = reads_small F laws a R m root_has (link_up w s p) l.leads k.0 k.1 (subst (Backed m) i (good.fit.sound.backed s)) in
+      lagging : Lagging f (guest_walk F a R m ≡ to f [])
+      lagging w s x g b p q i z =
+          let l = good.fit.sound.framed.links I D w s p in
+          let k = named_table (F.reads directory_level w) g Unsynchronised (subst (λ x. shadows x (named F w) ≡ true) i l.names) in
+          let read = reads_small F laws a R m root_has (link_up w s p) l.leads k.0 k.1 (subst (Backed m) i (good.fit.sound.framed.backed s)) in
           let free = subst (λ ws. Unstored ws (page_of a.address) h) read u in
-          leaf_walk w s x f e.frame b Unsynchronised p q i z m (has_at o h) (link_up w s p)
-          (since F o x e.frame J (page_of a.address) h good.raised (table_index_small a.address)
-          (sometime_has o {P = Then F R a.address w e.frame x} (λ n same v. v.1) (good.past I a.address w s e.frame x f b good.rooted p i q)) free.1.0)
+          leaf_walk w s x f g b Unsynchronised p q i z m (has_at o h) (link_up w s p)
+          (since F o x g J (page_of a.address) h good.raised (table_index_small a.address)
+          (sometime_has o {P = Then F R a.address w g x} (λ n same v. v.1) (good.past I a.address w s g x f b good.rooted p i q)) free.1.0)
 
   target_has : (f : ℕ) → Hit F a r.table I f → has_words (m f) ≡ true
   target_has _ (by_piece {w} {s} {g} {b} p y q z) =
-      let k = good.fit.sound.pieces s J b q in
+      let k = good.fit.sound.framed.pieces s J b q in
       let e : k.first ≡ g = cc (k.is, y) in
       subst (λ (x : ℕ). has_words (m (x + J)) ≡ true) e k.target
-  target_has _ (by_leaf {w} {s} {x} {f} {b} p q z) = (good.fit.sound.leaves s J x f b q).target
+  target_has _ (by_leaf {w} {s} {x} {f} {b} p q z) = (good.fit.sound.framed.leaves s J x f b q).target
 
   pub hit_lawful : (w f : ℕ) → a.privilege ≡ mode_at o h → Hit F a r.table I f → LawfulThrough F o h a (hit_answer a w m f)
   hit_lawful w f p hit = record {

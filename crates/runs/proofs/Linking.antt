@@ -1,24 +1,25 @@
 -- After an access that walked its link is there, with the present word, and names the slot below.
-use Rattle.std.proofs.Common.{◌≡◌, ℕ, ◌<◌, Bool, true, false, cond, ◌&&◌, eqb, ◌⊎◌, List, Some, sym, refl, ap, ◌∙◌, subst, inl, inr, ⊎_elim}
+use Rattle.std.proofs.lemmas.Bool.Decides.{nat_tests}
+use Rattle.std.proofs.Common.{◌≡◌, ℕ, ◌<◌, Bool, true, cond, ◌&&◌, eqb, ◌⊎◌, List, Some, sym, refl, ap, ◌∙◌, subst, inl, inr, ⊎_elim, arith}
 use Rattle.std.proofs.lemmas.Bool.{eq-eqb, eqb-true}
 use Rattle.memory.specs.Memory.{Memory}
 use Rattle.paging.specs.Formats.{Format}
 use Rattle.paging.specs.Terms.{directory_level}
 use Rattle.policies.specs.Orders.{OrdersKept, Rule}
 use Rattle.shadow.specs.Slots.{place_at, put_place, shadow_at}
-use Rattle.slot.specs.Slot.{is_nothing, lags, shadows}
+use Rattle.slot.specs.Slot.{is_nothing, shadows}
 use Rattle.slot.specs.declared.slots.Place.{Place}
-use Rattle.slot.specs.declared.slots.Place.TheVariants.{Empty, Link, Leaf, Piece}
+use Rattle.slot.specs.declared.slots.Place.TheVariants.{Link, Leaf}
 use Rattle.slot.specs.declared.slots.Shadow.TheVariants.{Directory, Table}
 use Rattle.shadow.specs.declared.slots.SlotTable.{SlotTable}
 use Rattle.slot.specs.declared.slots.SyncState.TheVariants.{Unsynchronised}
 use Rattle.runs.specs.Laws.{word_at}
 use Rattle.runs.specs.Unit.{Taken, good_link, link_slot, linked, obtain, root_slot, taken, with_link}
-use Rattle.runs.proofs.Basics.{by_eq₂, clash}
+use Rattle.runs.proofs.Basics.{by_eq₂}
 use Rattle.runs.proofs.Fewer.{Fewer, LeafThere}
 use Rattle.runs.proofs.Good.{Fit, refit}
 use Rattle.runs.proofs.Places.{roomy_put, small_slot, view_put}
-use Rattle.runs.proofs.Shadows.{directory_here, filled, named_no_directory}
+use Rattle.runs.proofs.Shadows.{calm_no_table, directory_here, filled, named_no_directory}
 use Rattle.runs.proofs.Sound.{Leads, Sound, Up, named, same}
 use Rattle.runs.proofs.Sounds.{sound_link}
 use Rattle.runs.proofs.Taking.{Got, HasFrame, free_but, got}
@@ -51,7 +52,7 @@ module _ (v : View) (i j : ℕ) (p : Place) where
 
   pub put_other : (k l : ℕ) → ((k ≡ i) × (l ≡ j) → ⊥) → (v_put i j p v).pl k l ≡ v.pl k l
   unfolding v_put
-  put_other k l n = by_eq₂ k i l j (λ b. cond b p (v.pl k l) ≡ v.pl k l) (λ a b. absurd (n (a, b))) (λ m. refl)
+  put_other k l n = grind (arith, nat_tests)
 
   -- either the place written, or an old one
   pub put_either : (k l : ℕ) (q : Place) → (v_put i j p v).pl k l ≡ q → ((k ≡ i) × (l ≡ j) × (p ≡ q)) ⊎ (v.pl k l ≡ q)
@@ -112,7 +113,7 @@ module _ (F : Format) (R : Rule) (kept_order : OrdersKept R) (m : Memory) (root 
 
         old_leaf : (s j x c : ℕ) → LeafThere (v_put I d (Link w k.slot) (view k.table)) s j x c → LeafThere (view k.table) s j x c
         old_leaf s j x c l =
-            ⊎_elim (λ u. clash (cc u.2)) (λ u. record { flag = l.flag; is = u })
+            ⊎_elim (λ u. absurd (cc u.2)) (λ u. record { flag = l.flag; is = u })
             (put_either (view k.table) I d (Link w k.slot) s j (Leaf x c l.flag) l.is)
 
         olds : Olds root (view t) (v_put I d (Link w k.slot) (view k.table))
@@ -120,9 +121,7 @@ module _ (F : Format) (R : Rule) (kept_order : OrdersKept R) (m : Memory) (root 
             ⊎_elim
             (λ y.
             let at : k.slot ≡ s = cc y.2 in
-            let lag : shadow_at s k.table ≡ Table f Unsynchronised = sym (put_sh (view k.table) I d (Link w k.slot) s) ∙ z.lag in
-            let n : true ≡ false = sym (ap lags lag) ∙ sym (ap (λ (n : ℕ). lags (shadow_at n k.table)) at) ∙ g.calm in
-            clash cc)
+            calm_no_table g.calm (ap (λ (n : ℕ). shadow_at n k.table) at ∙ sym (put_sh (view k.table) I d (Link w k.slot) s) ∙ z.lag))
             (λ y.
             olds_fewer root g.fewer i e u s f j x c
             (record { dir = sym (put_sh (view k.table) I d (Link w k.slot) i) ∙ z.dir; link = y; lag = sym (put_sh (view k.table) I d (Link w k.slot) s) ∙ z.lag; leaf = old_leaf s j x c z.leaf }))
@@ -137,11 +136,8 @@ module _ (F : Format) (R : Rule) (kept_order : OrdersKept R) (m : Memory) (root 
 
         by_test : (v s : ℕ) (b c : Bool) → place_at I d t ≡ Link v s → eqb v w ≡ b → shadows (shadow_at s t) (named F w) ≡ c → LinkedUp d w (cond (b && c) (taken s t q 0) (with_link I d w (obtain R m (Some root) (named F w) t q)))
         by_test v s true true e p z = there s (e ∙ ap (λ (n : ℕ). Link n s) (eqb-true v w p)) z
-        by_test v s true false e p z = again
-        by_test v s false c e p z = again
+        by_test v s b c e p z = again
 
         go : (y : Place) → place_at I d t ≡ y → LinkedUp d w (cond (good_link t w (named F w) y) (taken (link_slot y) t q 0) (with_link I d w (obtain R m (Some root) (named F w) t q)))
-        go Empty e = again
         go (Link v s) e = by_test v s (eqb v w) (shadows (shadow_at s t) (named F w)) e refl refl
-        go (Leaf v c b) e = again
-        go (Piece b) e = again
+        go y e = again

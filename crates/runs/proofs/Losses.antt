@@ -7,7 +7,6 @@ use Rattle.slot.specs.declared.slots.Place.TheVariants.{Empty, Link, Leaf, Piece
 use Rattle.slot.specs.declared.slots.Shadow.{Shadow}
 use Rattle.slot.specs.declared.slots.Shadow.TheVariants.{Nothing, Directory, Table, Split}
 use Rattle.runs.specs.Laws.{word_at}
-use Rattle.runs.proofs.Basics.{clash, untrue}
 use Rattle.runs.proofs.Sound.{opens}
 use Rattle.runs.proofs.Views.{View, guard_at, unlink_at, v_checked}
 
@@ -20,74 +19,55 @@ pub data Less : Place → Place → Type 0 where
 
 pub less_empty : {p q : Place} → Less p q → q ≡ Empty → p ≡ Empty
 less_empty gone e = refl
-less_empty kept e = e
-less_empty leaf_off e = clash cc
-less_empty piece_off e = clash cc
+less_empty l e = cc
 
 pub less_link : {p q : Place} → Less p q → (w s : ℕ) → p ≡ Link w s → q ≡ Link w s
-less_link gone w s e = clash cc
 less_link kept w s e = e
-less_link leaf_off w s e = clash cc
-less_link piece_off w s e = clash cc
+less_link l w s e = cc
 
 pub less_leaf : {p q : Place} → Less p q → (w a : ℕ) (b : Bool) → p ≡ Leaf w a b → (c : Bool) × (q ≡ Leaf w a c)
-less_leaf gone w a b e = clash cc
 less_leaf kept w a b e = (b, e)
 less_leaf (leaf_off {b = c}) w a b e = (c, cc)
-less_leaf piece_off w a b e = clash cc
+less_leaf l w a b e = absurd cc
 
 pub less_piece : {p q : Place} → Less p q → (b : Bool) → p ≡ Piece b → (c : Bool) × (q ≡ Piece c)
-less_piece gone b e = clash cc
 less_piece kept b e = (b, e)
-less_piece leaf_off b e = clash cc
 less_piece (piece_off {b = c}) b e = (c, refl)
+less_piece l b e = absurd cc
 
 pub less_opens : {p q : Place} → Less p q → (j : ℕ) (x : Shadow) (g : ℕ) → opens j x g p ≡ true → opens j x g q ≡ true
-less_opens gone j x g e = untrue e
 less_opens kept j x g e = e
-less_opens leaf_off j x g e = untrue e
-less_opens piece_off j Nothing g e = untrue e
-less_opens piece_off j (Directory f) g e = untrue e
-less_opens piece_off j (Table f y) g e = untrue e
-less_opens piece_off j (Split f) g e = untrue e
+less_opens piece_off j Nothing g e = cc
+less_opens piece_off j x g e = cc
+less_opens l j x g e = cc
 
 pub less_cond : (b : Bool) {p q : Place} → Less p q → Less (cond b Empty p) q
 less_cond true h = gone
 less_cond false h = h
 
 pub guard_leaf_less : (f : ℕ) (p : Place) → Less (guard_leaf f p) p
-guard_leaf_less f Empty = kept
-guard_leaf_less f (Link w s) = kept
 guard_leaf_less f (Leaf w a b) = elim (eqb a f) as (λ x. Less (cond x (Leaf w a false) (Leaf w a b)) (Leaf w a b)) [ true ↦ leaf_off | false ↦ kept ]
-guard_leaf_less f (Piece b) = kept
+guard_leaf_less f p = kept
 
 pub flag_off_less : (p : Place) → Less (flag_off p) p
-flag_off_less Empty = kept
-flag_off_less (Link w s) = kept
 flag_off_less (Leaf w a b) = leaf_off
 flag_off_less (Piece b) = piece_off
+flag_off_less p = kept
 
 pub guard_at_less : (f j : ℕ) (x : Shadow) (p : Place) → Less (guard_at f j x p) p
-guard_at_less f j Nothing p = kept
-guard_at_less f j (Directory g) p = kept
 guard_at_less f j (Table g y) p = guard_leaf_less f p
 guard_at_less f j (Split g) p = elim (eqb (g + j) f) as (λ x. Less (cond x (flag_off p) p) p) [ true ↦ flag_off_less p | false ↦ kept ]
+guard_at_less f j x p = kept
 
 pub check_less : (w : ℕ) (p : Place) → Less (check_place w p) p
-check_less w Empty = kept
-check_less w (Link v s) = kept
 check_less w (Leaf v a b) = elim (eqb v w) as (λ x. Less (cond x (Leaf v a b) Empty) (Leaf v a b)) [ true ↦ kept | false ↦ gone ]
-check_less w (Piece b) = kept
+check_less w p = kept
 
 pub checked_less : (m : Memory) (i f : ℕ) (v : View) (k j : ℕ) → Less ((v_checked m i f v).pl k j) (v.pl k j)
 checked_less m i f v k j =
     elim (eqb k i) as (λ b. Less (cond b (check_place (word_at m f j) (v.pl k j)) (v.pl k j)) (v.pl k j)) [ true ↦ check_less (word_at m f j) (v.pl k j) | false ↦ kept ]
 
 pub unlink_less : (i : ℕ) (x : Shadow) (p : Place) → Less (unlink_at i x p) p
-unlink_less i Nothing p = kept
-unlink_less i (Directory f) Empty = kept
 unlink_less i (Directory f) (Link w s) = less_cond (eqb s i) kept
-unlink_less i (Directory f) (Leaf w a b) = kept
-unlink_less i (Directory f) (Piece b) = kept
-unlink_less i (Table f y) p = kept
-unlink_less i (Split f) p = kept
+unlink_less i (Directory f) p = kept
+unlink_less i x p = kept

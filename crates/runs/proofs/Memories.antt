@@ -1,12 +1,13 @@
 -- Which words memory has after writes, and that marks only raise them.
-use Rattle.std.proofs.Common.{◌≡◌, ℕ, ◌%◌, ◌<◌, true, false, cond, ◌&&◌, eqb, List, [], ◌∷◌, ◌++◌, sym, refl, ap, ◌∙◌, mod-eq_of_lt}
-use Rattle.std.proofs.lemmas.Bool.{cond-false, cond-true, eq-eqb, ne_eqb, or_parts}
+use Rattle.std.proofs.lemmas.Bool.Decides.{nat_tests}
+use Rattle.std.proofs.Common.{◌≡◌, ℕ, ◌%◌, ◌<◌, true, false, cond, ◌&&◌, eqb, List, [], ◌∷◌, ◌++◌, refl, ap, ◌∙◌, arith}
+use Rattle.std.proofs.lemmas.Bool.{cond-true, eq-eqb, or_parts}
 use Rattle.memory.specs.Memory.{Contents, Memory, cause, changed, frame_words, has_words, stored, words}
 use Rattle.paging.specs.Formats.{Format}
 use Rattle.walk.specs.Marking.{Write, put, put_all}
 use Rattle.runs.specs.Histories.{writes_to}
 use Rattle.runs.specs.Laws.{last_put, word_at, word_in}
-use Rattle.runs.proofs.Basics.{both_false, by_eq, by_eq₂, untrue}
+use Rattle.runs.proofs.Basics.{both_false, by_eq₂}
 use Rattle.runs.proofs.Moments.{SmallWrites}
 use Rattle.runs.proofs.Sound.{Raises, Up, more, same}
 
@@ -14,31 +15,27 @@ use Rattle.runs.proofs.Sound.{Raises, Up, more, same}
 
 changed_same : (c : Contents) (i w : ℕ) → has_words c ≡ true → word_in (changed c i w) i ≡ w
 changed_same (words v) i w h = cond-true (eqb (i % frame_words) (i % frame_words)) w (v i) (eq-eqb _ _ refl)
-changed_same (cause c) i w h = untrue h
+changed_same (cause c) i w h = cc
 
 changed_other : (c : Contents) (i j w : ℕ) → i < 1024 → j < 1024 → (i ≡ j → ⊥) → word_in (changed c i w) j ≡ word_in c j
-changed_other (words v) i j w a b n = cond-false _ w (v j) (ne_eqb (j % frame_words) (i % frame_words) (λ e. n (sym (mod-eq_of_lt a) ∙ sym e ∙ mod-eq_of_lt b)))
-changed_other (cause c) i j w a b n = refl
+changed_other c i j w a b n = grind (arith, nat_tests)
 
 has_changed : (c : Contents) (i w : ℕ) → has_words (changed c i w) ≡ has_words c
-has_changed (words v) i w = refl
-has_changed (cause c) i w = refl
+has_changed c i w = grind (arith, nat_tests)
 
 module _ (m : Memory) (f i w : ℕ) where
   pub has_stored : (g : ℕ) → has_words (stored m f i w g) ≡ has_words (m g)
-  has_stored g = elim (eqb g f) as (λ b. has_words (cond b (changed (m g) i w) (m g)) ≡ has_words (m g)) [ true ↦ has_changed (m g) i w | false ↦ refl ]
+  has_stored g = grind (arith, nat_tests, has_changed (m g) i w)
 
   pub word_stored_same : has_words (m f) ≡ true → word_at (stored m f i w) f i ≡ w
   word_stored_same h = rw (eq-eqb f f refl) (changed_same (m f) i w h)
 
   pub word_stored_other : (g j : ℕ) → i < 1024 → j < 1024 → ((f ≡ g) × (i ≡ j) → ⊥) → word_at (stored m f i w) g j ≡ word_at m g j
-  word_stored_other g j a b n =
-      by_eq g f (λ t. word_in (cond t (changed (m g) i w) (m g)) j ≡ word_at m g j) (λ e. changed_other (m g) i j w a b (λ p. n (sym e, p))) (λ e. refl)
+  word_stored_other g j a b n = grind (arith, nat_tests, changed_other)
 
   -- in either case
   word_stored : (g j : ℕ) → has_words (m g) ≡ true → i < 1024 → j < 1024 → word_at (stored m f i w) g j ≡ cond (eqb f g && eqb i j) w (word_at m g j)
-  word_stored g j h a b =
-      by_eq₂ f g i j (λ t. word_at (stored m f i w) g j ≡ cond t w (word_at m g j)) (λ p q. rw (← p, ← q) (word_stored_same (rw p h))) (word_stored_other g j a b)
+  word_stored g j h a b = grind (arith, nat_tests, word_stored_same, word_stored_other)
 
 -- WRITES IN THEIR ORDER
 

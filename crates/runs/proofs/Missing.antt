@@ -1,19 +1,19 @@
 -- An access that walks and comes through obeys the laws, and leaves the run good.
-use Rattle.std.proofs.Common.{◌≡◌, ℕ, ◌+◌, ◌<◌, ◌≤◌, Bool, true, false, cond, eqb, ◌⊎◌, List, [], ◌∷◌, is_some, Some, None, Option, unwrap_or, sym, refl, ap, ◌∙◌, subst, inl, inr, ⊎_elim, arith}
-use Rattle.std.proofs.lemmas.Bool.{cases_lt, eqb-true, lt-ltb, ne_eqb}
+use Rattle.std.proofs.Common.{◌≡◌, ℕ, ◌+◌, ◌<◌, Bool, true, false, cond, eqb, List, [], ◌∷◌, is_some, Some, None, Option, unwrap_or, sym, refl, ap, ◌∙◌, subst, ⊎_elim, arith}
+use Rattle.std.proofs.lemmas.Bool.{eqb-true, lt-ltb, ne_eqb, false_from_ne_true}
 use Rattle.memory.specs.Memory.{Memory, has_words}
 use Rattle.paging.specs.Formats.{Format, LawsOfMarking}
 use Rattle.paging.specs.Terms.{directory_level, store}
 use Rattle.policies.specs.Orders.{OrdersKept, Rule}
 use Rattle.walk.specs.Marking.{Write, due, put_all}
 use Rattle.walk.specs.Walk.{Asked, Seen, directory_index, reached, table_index, walk_from, word_index}
-use Rattle.hits.specs.Hits.{copied_at, copied_words, hit_of, hits, number_limit}
+use Rattle.hits.specs.Hits.{copied_at, hits, number_limit}
 use Rattle.hits.specs.declared.hits.Copied.{Copied}
 use Rattle.shadow.specs.Slots.{find_slot, is_directory, place_at, put_place, shadow_at}
 use Rattle.slot.specs.Slot.{is_directory_of, shadows}
 use Rattle.slot.specs.declared.slots.Place.{Place}
 use Rattle.slot.specs.declared.slots.Place.TheVariants.{Link}
-use Rattle.slot.specs.declared.slots.Shadow.TheVariants.{Directory, Table, Split}
+use Rattle.slot.specs.declared.slots.Shadow.TheVariants.{Directory}
 use Rattle.shadow.specs.declared.slots.SlotTable.{SlotTable}
 use Rattle.slot.specs.declared.slots.Thing.{Thing}
 use Rattle.slot.specs.declared.slots.Thing.TheVariants as thing
@@ -23,20 +23,20 @@ use Rattle.runs.specs.Laws as laws_of
 use Rattle.runs.specs.Runs.{Bounded}
 use Rattle.runs.specs.Terms.{Through, hidden, page_of}
 use Rattle.runs.specs.Unit.{Running, Taken, Traced, count_in, hit_by, hit_target, linked, new_place, root_slot, store_traced, tell_path, traced, value_of}
-use Rattle.runs.proofs.Basics.{clash, elim_eq, untrue}
+use Rattle.runs.proofs.Basics.{elim_eq}
 use Rattle.runs.proofs.Counting.{tallied_more}
 use Rattle.runs.proofs.Good.{Fit, Good, Past, Then, refit}
 use Rattle.runs.proofs.Hitting.{large_hits, leaf_hit, own_flag, piece_hit, small_hits}
 use Rattle.runs.proofs.Linking.{LinkedUp, linked_up}
 use Rattle.runs.proofs.Memories.{last_put_is}
-use Rattle.runs.proofs.Places.{directory_yes, find_none, find_some}
+use Rattle.runs.proofs.Places.{find_none, find_some, slot_some}
 use Rattle.runs.proofs.Shadows.{directory_here, is_directory_at, is_split_at, is_table_at, named_by}
 use Rattle.runs.proofs.Sound.{Leads, Pages, Raises, Up, named}
 use Rattle.runs.proofs.Sounds.{sound_raise}
 use Rattle.runs.proofs.Storing.{Kept, New, Stands, flag_of, kept_load, kept_store, new_leaf, new_piece, put_shadow, stands_put}
 use Rattle.runs.proofs.Taking.{HasFrame, told_fit}
 use Rattle.runs.proofs.Views.{View, view}
-use Rattle.runs.proofs.Walking.{Arrived, arrived, below, guest_reached, large, lower, raises_due, settled_large, settled_small, small, small_due, up_allows_one, up_allows_two, up_leads, up_named, up_pages, upper}
+use Rattle.runs.proofs.Walking.{Arrived, arrived, below, guest_walked, large, lower, raises_due, settled_large, settled_small, small, small_due, up_allows, up_allows_two, up_leads, up_named, up_pages, upper}
 use Rattle.runs.proofs.Windows.{before_store, directory_index_small, has_at, last_is, present, table_index_small, word_index_small}
 
 -- a page has its indices
@@ -51,14 +51,13 @@ root_slot_is F m t q fit root i e = go (find_slot (thing.Directory root) t) refl
     yes_i = ap (is_directory_of root) e ∙ directory_here root
 
     go : (s : Option ℕ) → find_slot (thing.Directory root) t ≡ s → unwrap_or s 0 ≡ i
-    go (Some k) z = fit.sound.unique k i (thing.Directory root) (find_some (thing.Directory root) t k fit.roomy z).0 yes_i
-    go None z = let u : true ≡ false = sym yes_i ∙ find_none (thing.Directory root) t z i in clash cc
+    go (Some k) z = fit.sound.framed.unique k i (thing.Directory root) (find_some (thing.Directory root) t k fit.roomy z).0 yes_i
+    go None z = cc (yes_i, find_none (thing.Directory root) t z i)
 
 -- like accesses hit alike
 hit_same : (F : Format) (a b : Asked) (c : Option Copied) → a.kind ≡ b.kind → a.privilege ≡ b.privilege → hit_by F b c ≡ hit_by F a c
 hit_same F a b None k v = refl
-hit_same F a b (Some c) k v =
-    ap (λ (x : ℕ). hit_of F x b.privilege (copied_words c) c.aim c.writable) (sym k) ∙ ap (λ (x : ℕ). hit_of F a.kind x (copied_words c) c.aim c.writable) (sym v)
+hit_same F a b (Some c) k v = rw (k, v)
 
 pub hit_alike : (F : Format) (a b : Asked) (i : ℕ) (t : SlotTable) → a.kind ≡ b.kind → page_of a.address ≡ page_of b.address → a.privilege ≡ b.privilege
     → hit_by F b (copied_at i (directory_index b.address) (table_index b.address) t) ≡ hit_by F a (copied_at i (directory_index a.address) (table_index a.address) t)
@@ -82,11 +81,8 @@ module _ (F : Format) (laws : LawsOfMarking F) (a : Asked) (m : Memory) (root : 
   abbrev with_due : List Seen → Memory
   with_due es = put_all m (due F a.kind m es)
 
-  pub due_raises : (f : ℕ) (es : List Seen) → Arrived F a m root f es → Raises F m (with_due es)
-  due_raises f es way = raises_due way
-
   first_up : (f : ℕ) (es : List Seen) → Arrived F a m root f es → Up F (upper a m root) (upper a (with_due es) root)
-  first_up f es way = (due_raises f es way).up root (directory_index a.address) (directory_index_small a.address)
+  first_up f es way = (raises_due way).up root (directory_index a.address) (directory_index_small a.address)
 
   walked_has : {f : ℕ} {es : List Seen} → Arrived F a m root f es → has_words (m f) ≡ true
   walked_has (large hr l t ok hf) = hf
@@ -97,7 +93,7 @@ module _ (F : Format) (laws : LawsOfMarking F) (a : Asked) (m : Memory) (root : 
   walked_leads (small hr l t hg p ok hf) = l
 
   pub arrived_has : (f : ℕ) (es : List Seen) → Arrived F a m root f es → has_words (with_due es f) ≡ true
-  arrived_has f es way = (due_raises f es way).has f ∙ walked_has way
+  arrived_has f es way = (raises_due way).has f ∙ walked_has way
 
   pub arrived_leads : (f : ℕ) (es : List Seen) → Arrived F a m root f es → Leads F (upper a (with_due es) root)
   arrived_leads f es way = up_leads F laws (first_up f es way) (walked_leads way)
@@ -110,17 +106,17 @@ module _ (F : Format) (laws : LawsOfMarking F) (a : Asked) (m : Memory) (root : 
       subst (Found F a root (with_due es) (below F a m root + table_index a.address))
       (sym (up_named F laws up ∙ named_by (F.reads directory_level (upper a m root)) false t))
       (split (below F a m root) refl
-      (large_hits F a.kind a.privilege (upper a (with_due es) root) b (up_allows_one F laws up a.kind a.privilege ∙ ok) (settled_large F laws a m root hr) (own_flag a.kind)))
+      (large_hits F a.kind a.privilege (upper a (with_due es) root) b (up_allows F laws [] [] up a.kind a.privilege ∙ ok) (settled_large F laws a m root hr) (own_flag a.kind)))
   found {f} es (small hr l t hg p ok hf) =
       let way : Arrived F a m root f es = small hr l t hg p ok hf in
       let up = first_up f es way in
       let g = below F a m root in
-      let low = (due_raises f es way).up g (table_index a.address) (table_index_small a.address) in
+      let low = (raises_due way).up g (table_index a.address) (table_index_small a.address) in
       let b = eqb a.kind store in
       let still = settled_small F laws a m root hr g hg in
       subst (Found F a root (with_due es) f)
       (sym (up_named F laws up ∙ named_by (F.reads directory_level (upper a m root)) true t))
-      (table g ((due_raises f es way).has g ∙ hg) (up_pages F laws low p)
+      (table g ((raises_due way).has g ∙ hg) (up_pages F laws low p)
       (small_hits F a.kind a.privilege (upper a (with_due es) root) b (lower a (with_due es) g) (up_allows_two F laws up low a.kind a.privilege ∙ ok) still.0 still.1 (own_flag a.kind)))
 
 -- FROM WHAT WAS FOUND
@@ -140,9 +136,8 @@ module _ (F : Format) (a : Asked) (root f : ℕ) (n : Memory) where
 
   -- the directory's slot is another
   pub found_apart : {x : Thing} → Found F a root n f x → (i s : ℕ) (v : View) → v.sh i ≡ Directory root → shadows (v.sh s) x ≡ true → i ≡ s → ⊥
-  found_apart (table g hg p z) i s v e q k =
-      let u = (is_table_at g (v.sh s) q).1 in let c : Directory root ≡ Table g (is_table_at g (v.sh s) q).0 = sym e ∙ ap v.sh k ∙ u in clash cc
-  found_apart (split g y z) i s v e q k = let c : Directory root ≡ Split g = sym e ∙ ap v.sh k ∙ is_split_at g (v.sh s) q in clash cc
+  found_apart (table g hg p z) i s v e q k = cc (e, ap v.sh k, (is_table_at g (v.sh s) q).1)
+  found_apart (split g y z) i s v e q k = cc (e, ap v.sh k, is_split_at g (v.sh s) q)
 
   -- and the access hits once its place is written
   pub found_hits : {x : Thing} → Found F a root n f x → (t u : SlotTable) (i s : ℕ) → Bounded n → has_words (n f) ≡ true
@@ -158,11 +153,7 @@ module _ (F : Format) (a : Asked) (root f : ℕ) (n : Memory) where
       (st.splits s g (is_split_at g (shadow_at s t) q)) st.here (lt-ltb (g + table_index a.address) number_limit (fits (g + table_index a.address) (ap (λ (k : ℕ). has_words (n k)) y ∙ hf))) z)
     where
       fits : (k : ℕ) → has_words (n k) ≡ true → k < number_limit
-      fits k e = go (cases_lt k 4096)
-        where
-          go : (k < 4096) ⊎ (4096 ≤ k) → k < number_limit
-          go (inl l) = omega arith
-          go (inr l) = let c : true ≡ false = sym e ∙ bounded k l in clash cc
+      fits k e = grind (arith, bounded k)
 
 -- THE ACCESS
 
@@ -200,7 +191,7 @@ module _ (F : Format) (laws : LawsOfMarking F) (R : Rule) (kept_order : OrdersKe
   way = arrived F a m root walked
 
   raise : Raises F m n
-  raise = due_raises F laws a m root f es way
+  raise = raises_due way
 
   begun : Fit F n r.table r.order
   begun = refit good.fit n r.table good.fit.roomy refl (sound_raise F m (view r.table) good.fit.sound n raise)
@@ -277,14 +268,10 @@ module _ (F : Format) (laws : LawsOfMarking F) (R : Rule) (kept_order : OrdersKe
 
   -- a store to a frame that was never a root is to no directory's frame
   no_directory : NeverRoot o f h → is_directory f (put_place K.slot J p K.table) ≡ false
-  no_directory never = go (is_directory f (put_place K.slot J p K.table)) refl
-    where
-      go : (b : Bool) → is_directory f (put_place K.slot J p K.table) ≡ b → b ≡ false
-      go false e = refl
-      go true e =
-          let k = directory_yes f (put_place K.slot J p K.table) e in
-          let at = is_directory_at f (shadow_at k.0 (put_place K.slot J p K.table)) k.1 in
-          absurd (good.were k.0 f (up.dirs k.0 f (sym (put_shadow F n root K.table K.order up.fit K.slot J f up.small (table_index_small a.address) target_has p new k.0) ∙ at)) never)
+  no_directory never = false_from_ne_true (is_directory f (put_place K.slot J p K.table)) (λ e.
+      let k = slot_some (is_directory_of f) (put_place K.slot J p K.table) e in
+      let at = is_directory_at f (shadow_at k.0 (put_place K.slot J p K.table)) k.1 in
+      good.were k.0 f (up.dirs k.0 f (sym (put_shadow F n root K.table K.order up.fit K.slot J f up.small (table_index_small a.address) target_has p new k.0) ∙ at)) never)
 
   hit_now : (a.kind ≡ store → NeverRoot o f h) → hit_by F a (copied_at I D J z.table) ≡ Some f
   hit_now free =
@@ -331,8 +318,8 @@ module _ (F : Format) (laws : LawsOfMarking F) (R : Rule) (kept_order : OrdersKe
         ∙ ap (last_put f W marks) (last_is F o f W h (sym (has_at o h f) ∙ sym (raise.has f) ∙ target_has) (word_index_small a.address) good.raised));
     marked = λ u. by_root;
     present = λ u. by_root;
-    exit = λ recent. untrue (sym (ap is_some none) ∙ good.ready a recent);
+    exit = λ recent. cc (good.ready a recent);
   }
     where
       by_root : guest_walk F a (root_at o h) m ≡ to f marks
-      by_root = subst (λ (k : ℕ). guest_walk F a k m ≡ to f marks) good.root (guest_reached F a root m walked)
+      by_root = subst (λ (k : ℕ). guest_walk F a k m ≡ to f marks) good.root (guest_walked F a root m walked)

@@ -3,11 +3,11 @@ use Rattle.std.proofs.Common.{◌≡◌, ℕ, zero, suc, ◌+◌, ◌-◌, ◌<�
 use lib.ListN
 use lib.ListN.{get_or-replicate, length-map, length-replicate}
 use Rattle.std.proofs.lemmas.List.{get_or-map, get_or_past, get_or-set_other, get_or-set_same}
-use Rattle.std.proofs.lemmas.Bool.{and_from, and_parts, cases_eq, cases_lt, eq-eqb, le-leb, leb-true, lt-ltb, ltb-true, ne_eqb}
+use Rattle.std.proofs.lemmas.Bool.{and_parts, cases_eq, cases_lt, eq-eqb, leb-true, ne_eqb}
 use Rattle.std.proofs.lemmas.Bool.Decides.{nat_tests}
 use Rattle.memory.specs.Memory.{Memory}
-use Rattle.shadow.specs.Slots.{change_all, change_slot, check_as, check_table, drop_entry, evict, fill, find_slot, first_empty, first_from, flag_off_at, fresh, guard, is_directory, is_free, is_protected, may_take, permitted, place_at, put_place, set_sync, shadow_at}
-use Rattle.slot.specs.Slot.{bare, change_place, check_from, check_place, check_slot, copies, drop_in_slot, flag_off, guard_as, guard_leaf, guard_slot, in_split, is_directory_of, is_nothing, lags, no_slot, protects, shadow_of, shadows, sync_slot, unlink_as, unlink_place, unlink_slot, with_sync}
+use Rattle.shadow.specs.Slots.{change_all, change_slot, check_as, check_table, drop_entry, evict, fill, find_slot, first_empty, first_from, flag_off_at, fresh, guard, is_free, may_take, permitted, place_at, put_place, set_sync, shadow_at}
+use Rattle.slot.specs.Slot.{bare, change_place, check_from, check_place, check_slot, copies, drop_in_slot, flag_off, guard_as, guard_leaf, guard_slot, in_split, is_nothing, lags, no_slot, shadow_of, shadows, sync_slot, unlink_as, unlink_place, unlink_slot, with_sync}
 use Rattle.slot.specs.declared.slots.Place.{Place}
 use Rattle.slot.specs.declared.slots.Place.TheVariants.{Empty}
 use Rattle.slot.specs.declared.slots.Shadow.{Shadow}
@@ -19,7 +19,6 @@ use Rattle.slot.specs.declared.slots.SyncState.TheVariants.{Protected, Unsynchro
 use Rattle.slot.specs.declared.slots.Thing.{Thing}
 use Rattle.runs.specs.Laws.{word_at}
 use Rattle.runs.specs.Unit.{frame_list, listed, resync, table_frame}
-use Rattle.runs.proofs.Basics.{clash, untrue}
 use Rattle.runs.proofs.Shadows.{nothing_shadows}
 use Rattle.runs.proofs.Views.{Roomy, View, guard_at, unlink_at, v_check, v_checked, v_drop, v_evict, v_fill, v_flag_off, v_guard, v_put, v_sync, view}
 
@@ -59,50 +58,33 @@ all_same (suc n) (suc j) a = all_same n j a
 -- ENDS
 
 pub past_end : (t : SlotTable) (i j : ℕ) → Roomy t → 1024 ≤ j → place_at i j t ≡ Empty
-past_end t i j r h = go (cases_lt i 8)
-  where
-    go : (i < 8) ⊎ (8 ≤ i) → place_at i j t ≡ Empty
-    go (inl k) = get_or_past (get_or t.slots i no_slot).places j Empty (rw (r.places i k) h)
-    go (inr k) = ap (λ (s : Slot). get_or s.places j Empty) (get_or_past t.slots i no_slot (rw r.slots k))
+past_end t i j r h = grind (arith, get_or_past t.slots i no_slot, get_or_past (get_or t.slots i no_slot).places j Empty, r.places i, r.slots)
 
 pub small_slot : (t : SlotTable) (i : ℕ) → Roomy t → is_nothing (shadow_at i t) ≡ false → i < 8
-small_slot t i r e = go (cases_lt i 8)
-  where
-    go : (i < 8) ⊎ (8 ≤ i) → i < 8
-    go (inl k) = k
-    go (inr k) = untrue (sym e ∙ ap (λ (s : Slot). is_nothing s.shadow) (get_or_past t.slots i no_slot (rw r.slots k)))
+small_slot t i r e = grind (arith, get_or_past t.slots i no_slot, r.slots)
 
 -- GUARDING
 
 module _ (f : ℕ) (s : Slot) where
   guard_shadow : (x : Shadow) → (guard_as f s x).shadow ≡ s.shadow
-  guard_shadow Nothing = refl
-  guard_shadow (Directory g) = refl
-  guard_shadow (Table g y) = refl
-  guard_shadow (Split g) = elim (in_split f g) as (λ b. (cond b (change_place (f - g) flag_off s) s).shadow ≡ s.shadow) [ true ↦ refl | false ↦ refl ]
+  guard_shadow x = grind (arith, nat_tests)
 
   guard_place : (j : ℕ) → (1024 ≤ j → get_or s.places j Empty ≡ Empty) → (x : Shadow) → get_or (guard_as f s x).places j Empty ≡ guard_at f j x (get_or s.places j Empty)
-  guard_place j past Nothing = refl
-  guard_place j past (Directory g) = refl
   guard_place j past (Table g y) = ListN.get_or-map (guard_leaf f) s.places j Empty
   guard_place j past (Split g) = go (in_split f g) refl
     where
-      stays : cond (eqb (g + j) f) Empty Empty ≡ Empty
-      stays = elim (eqb (g + j) f) as (λ b. cond b Empty Empty ≡ Empty) [ true ↦ refl | false ↦ refl ]
-
       same : (g ≤ f) → eqb j (f - g) ≡ eqb (g + j) f
       same h = grind (arith, nat_tests)
 
-      outside : in_split f g ≡ false → (g + j < g + 1024) ⊎ (g + 1024 ≤ g + j) → (g + j ≡ f) ⊎ (g + j ≡ f → ⊥) → get_or s.places j Empty ≡ cond (eqb (g + j) f) (flag_off (get_or s.places j Empty)) (get_or s.places j Empty)
-      outside e c (inr n) = ap (λ b. cond b (flag_off (get_or s.places j Empty)) (get_or s.places j Empty)) (sym (ne_eqb (g + j) f n))
-      outside e (inl h) (inl q) = untrue (sym e ∙ and_from (leb g f) (ltb f (g + 1024)) (le-leb g f (omega arith)) (lt-ltb f (g + 1024) (omega arith)))
-      outside e (inr h) (inl q) = let none : get_or s.places j Empty ≡ Empty = past (omega arith) in none ∙ sym (ap (λ x. cond (eqb (g + j) f) (flag_off x) x) none ∙ stays)
+      outside : in_split f g ≡ false → get_or s.places j Empty ≡ cond (eqb (g + j) f) (flag_off (get_or s.places j Empty)) (get_or s.places j Empty)
+      outside e = grind (arith, nat_tests, past)
 
       go : (b : Bool) → in_split f g ≡ b → get_or (cond b (change_place (f - g) flag_off s) s).places j Empty ≡ cond (eqb (g + j) f) (flag_off (get_or s.places j Empty)) (get_or s.places j Empty)
       go true e =
           changed flag_off Empty refl s.places (f - g) j (λ b q. q ≡ cond b (flag_off (get_or s.places j Empty)) (get_or s.places j Empty)) refl refl
           ∙ ap (λ b. cond b (flag_off (get_or s.places j Empty)) (get_or s.places j Empty)) (same (leb-true g f (and_parts (leb g f) (ltb f (g + 1024)) e).0))
-      go false e = outside e (cases_lt (g + j) (g + 1024)) (cases_eq (g + j) f)
+      go false e = outside e
+  guard_place j past x = refl
 
 -- a split guards the frames of its 1,024 places only
 pub view_guard : (f : ℕ) (t : SlotTable) → Roomy t → view (guard f t) ≡ v_guard f (view t)
@@ -118,16 +100,11 @@ view_guard f t r = same_view (view (guard f t)) (v_guard f (view t))
 
 module _ (i : ℕ) (s : Slot) where
   unlink_shadow : (x : Shadow) → (unlink_as i s x).shadow ≡ s.shadow
-  unlink_shadow Nothing = refl
-  unlink_shadow (Directory g) = refl
-  unlink_shadow (Table g y) = refl
-  unlink_shadow (Split g) = refl
+  unlink_shadow x = grind (arith, nat_tests)
 
   unlink_in : (j : ℕ) (x : Shadow) → get_or (unlink_as i s x).places j Empty ≡ unlink_at i x (get_or s.places j Empty)
-  unlink_in j Nothing = refl
   unlink_in j (Directory g) = ListN.get_or-map (unlink_place i) s.places j Empty
-  unlink_in j (Table g y) = refl
-  unlink_in j (Split g) = refl
+  unlink_in j x = refl
 
 pub view_evict : (i : ℕ) (t : SlotTable) → view (evict i t) ≡ v_evict i (view t)
 unfolding v_evict
@@ -166,8 +143,7 @@ view_drop f j t = same_view (view (drop_entry f j t)) (v_drop f j (view t))
     at k = ListN.get_or-map (drop_in_slot f j) t.slots k no_slot
 
     drop_shadow : (s : Slot) (b : Bool) → (cond b (change_place j (λ p. Empty) s) s).shadow ≡ s.shadow
-    drop_shadow s true = refl
-    drop_shadow s false = refl
+    drop_shadow s b = grind (arith, nat_tests)
 
     drop_place : (s : Slot) (l : ℕ) (b : Bool) → get_or (cond b (change_place j (λ p. Empty) s) s).places l Empty ≡ cond (b && eqb l j) Empty (get_or s.places l Empty)
     drop_place s l true = changed (λ p. Empty) Empty refl s.places j l (λ b q. q ≡ cond b Empty (get_or s.places l Empty)) refl refl
@@ -184,7 +160,7 @@ module _ (p : ℕ → Slot → Bool) where
     passes : p i (get_or ss step no_slot) ≡ true
 
   first_some : (k : ℕ) (ss : List Slot) (i : ℕ) → first_from p k ss ≡ Some i → Found k ss i
-  first_some k [] i e = clash cc
+  first_some k [] i e = cc
   first_some k (s ∷ ss) i e = go (p k s) refl (first_some (suc k) ss i) e
     where
       go : (b : Bool) → p k s ≡ b → (first_from p (suc k) ss ≡ Some i → Found (suc k) ss i) → cond b (Some k) (first_from p (suc k) ss) ≡ Some i → Found k (s ∷ ss) i
@@ -193,79 +169,48 @@ module _ (p : ℕ → Slot → Bool) where
 
   first_none : (k : ℕ) (ss : List Slot) → first_from p k ss ≡ None → (j n : ℕ) → k + j ≡ n → j < length ss → p n (get_or ss j no_slot) ≡ false
   first_none k [] e j n is h = absurd (omega arith)
-  first_none k (s ∷ ss) e j n is h = go (p k s) refl (first_none (suc k) ss) e j is h
-    where
-      go : (b : Bool) → p k s ≡ b → (first_from p (suc k) ss ≡ None → (j n : ℕ) → suc k + j ≡ n → j < length ss → p n (get_or ss j no_slot) ≡ false) → cond b (Some k) (first_from p (suc k) ss) ≡ None → (j : ℕ) → k + j ≡ n → j < suc (length ss) → p n (get_or (s ∷ ss) j no_slot) ≡ false
-      go true q later e j is h = clash cc
-      go false q later e zero is h = let same : k ≡ n = omega arith in subst (λ (m : ℕ). p m s ≡ false) same q
-      go false q later e (suc j) is h = later e j n (omega arith) (omega arith)
+  first_none k (s ∷ ss) e zero n is h = grind (arith, nat_tests)
+  first_none k (s ∷ ss) e (suc j) n is h = grind (arith, nat_tests, first_none (suc k) ss)
 
 -- searches that ask only what a slot shadows
 module _ (q : Shadow → Bool) (t : SlotTable) where
   slot_found : (i : ℕ) → first_from (λ k s. q s.shadow) 0 t.slots ≡ Some i → (q (shadow_at i t) ≡ true) × (i < length t.slots)
-  slot_found i e = let r = first_some (λ k s. q s.shadow) 0 t.slots i e in
-      let same : r.step ≡ i = omega (arith, r.number) in
-      (subst (λ (n : ℕ). q (shadow_at n t) ≡ true) same r.passes, omega (arith, r.inside))
+  slot_found i e = grind (arith, first_some (λ k s. q s.shadow) 0 t.slots i e)
 
   slot_missed : q Nothing ≡ false → first_from (λ k s. q s.shadow) 0 t.slots ≡ None → (k : ℕ) → q (shadow_at k t) ≡ false
-  slot_missed n e k = go (cases_lt k (length t.slots))
-    where
-      go : (k < length t.slots) ⊎ (length t.slots ≤ k) → q (shadow_at k t) ≡ false
-      go (inl h) = first_none (λ k s. q s.shadow) 0 t.slots e k k (omega arith) h
-      go (inr h) = ap (λ (s : Slot). q s.shadow) (get_or_past t.slots k no_slot h) ∙ n
+  slot_missed n e k = grind (arith, first_none (λ k s. q s.shadow) 0 t.slots e k k, get_or_past t.slots k no_slot)
 
-  slot_some : is_some (first_from (λ k s. q s.shadow) 0 t.slots) ≡ true → (i : ℕ) × (q (shadow_at i t) ≡ true)
+  pub slot_some : is_some (first_from (λ k s. q s.shadow) 0 t.slots) ≡ true → (i : ℕ) × (q (shadow_at i t) ≡ true)
   slot_some = go (first_from (λ k s. q s.shadow) 0 t.slots) refl
     where
       go : (o : Option ℕ) → first_from (λ k s. q s.shadow) 0 t.slots ≡ o → is_some o ≡ true → (i : ℕ) × (q (shadow_at i t) ≡ true)
-      go None e z = untrue z
+      go None e z = absurd cc
       go (Some i) e z = (i, (slot_found i e).0)
 
-  slot_none : q Nothing ≡ false → is_some (first_from (λ k s. q s.shadow) 0 t.slots) ≡ false → (k : ℕ) → q (shadow_at k t) ≡ false
-  slot_none n = go (first_from (λ k s. q s.shadow) 0 t.slots) refl
-    where
-      go : (o : Option ℕ) → first_from (λ k s. q s.shadow) 0 t.slots ≡ o → is_some o ≡ false → (k : ℕ) → q (shadow_at k t) ≡ false
-      go None e z = slot_missed n e
-      go (Some i) e z = untrue (sym z)
+  pub slot_none : q Nothing ≡ false → is_some (first_from (λ k s. q s.shadow) 0 t.slots) ≡ false → (k : ℕ) → q (shadow_at k t) ≡ false
+  slot_none n e k = grind (arith, slot_missed n, k)
 
 pub find_some : (x : Thing) (t : SlotTable) (i : ℕ) → Roomy t → find_slot x t ≡ Some i → (shadows (shadow_at i t) x ≡ true) × (i < 8)
-find_some x t i r e = let k = slot_found (λ y. shadows y x) t i e in (k.0, subst (λ (n : ℕ). i < n) r.slots k.1)
+find_some x t i r e = grind (arith, slot_found (λ y. shadows y x) t i e, r.slots)
 
 pub find_none : (x : Thing) (t : SlotTable) → find_slot x t ≡ None → (k : ℕ) → shadows (shadow_at k t) x ≡ false
 find_none x t e = slot_missed (λ y. shadows y x) t (nothing_shadows x) e
 
 pub empty_some : (t : SlotTable) (i : ℕ) → first_empty t ≡ Some i → (is_nothing (shadow_at i t) ≡ true) × (i < t.count)
-empty_some t i e = let r = first_some (λ k s. is_free t.count k s.shadow) 0 t.slots i e in
-    let same : r.step ≡ i = omega (arith, r.number) in
-    let parts = and_parts (ltb i t.count) (is_nothing (shadow_at r.step t)) r.passes in
-    (subst (λ (n : ℕ). is_nothing (shadow_at n t) ≡ true) same parts.1, ltb-true i t.count parts.0)
+empty_some t i e = grind (arith, nat_tests, first_some (λ k s. is_free t.count k s.shadow) 0 t.slots i e)
 
 pub empty_none : (t : SlotTable) → Roomy t → t.count ≤ 8 → first_empty t ≡ None → (k : ℕ) → k < t.count → is_nothing (shadow_at k t) ≡ false
-empty_none t r small e k h =
-    ap (λ b. b && is_nothing (shadow_at k t)) (sym (lt-ltb k t.count h))
-    ∙ first_none (λ n s. is_free t.count n s.shadow) 0 t.slots e k k (omega arith) (rw r.slots (omega arith))
-
-pub directory_no : (f : ℕ) (t : SlotTable) → is_directory f t ≡ false → (k : ℕ) → is_directory_of f (shadow_at k t) ≡ false
-directory_no f t = slot_none (is_directory_of f) t refl
-
-pub directory_yes : (f : ℕ) (t : SlotTable) → is_directory f t ≡ true → (i : ℕ) × (is_directory_of f (shadow_at i t) ≡ true)
-directory_yes f t = slot_some (is_directory_of f) t
-
-pub protected_no : (f : ℕ) (t : SlotTable) → is_protected f t ≡ false → (k : ℕ) → protects f (shadow_at k t) ≡ false
-protected_no f t = slot_none (protects f) t refl
-
-pub protected_yes : (f : ℕ) (t : SlotTable) → is_protected f t ≡ true → (i : ℕ) × (protects f (shadow_at i t) ≡ true)
-protected_yes f t = slot_some (protects f) t
+empty_none t r small e k h = grind (arith, nat_tests, r.slots, first_none (λ n s. is_free t.count n s.shadow) 0 t.slots e k k)
 
 -- WORDS OF A FRAME
 
 get_or_listed : (w : ℕ → ℕ) (k n j : ℕ) → j < n → get_or (listed w k n) j 0 ≡ w (k + j)
 get_or_listed w k zero j h = absurd (omega arith)
-get_or_listed w k (suc n) zero h = let same : k ≡ k + 0 = omega arith in ap w same
-get_or_listed w k (suc n) (suc j) h = let same : suc k + j ≡ k + suc j = omega arith in get_or_listed w (suc k) n j (omega arith) ∙ ap w same
+get_or_listed w k (suc n) zero h = grind arith
+get_or_listed w k (suc n) (suc j) h = grind (arith, get_or_listed w (suc k) n j)
 
 pub frame_word : (m : Memory) (f j : ℕ) → j < 1024 → get_or (frame_list m f) j 0 ≡ word_at m f j
-frame_word m f j h = let same : 0 + j ≡ j = omega arith in get_or_listed (word_at m f) 0 1024 j h ∙ ap (word_at m f) same
+frame_word m f j h = grind (arith, get_or_listed (word_at m f) 0 1024 j h)
 
 -- PERMISSIONS
 
@@ -278,11 +223,7 @@ module _ (r : Option ℕ) (t : SlotTable) (i : ℕ) where
   permitted_if h e = permitted_at h ∙ e
 
   pub permitted_says : get_or (permitted r t) i false ≡ true → may_take r t i ≡ true
-  permitted_says e = go (cases_lt i 8)
-    where
-      go : (i < 8) ⊎ (8 ≤ i) → may_take r t i ≡ true
-      go (inl h) = sym (permitted_at h) ∙ e
-      go (inr h) = untrue (sym (get_or_past (permitted r t) i false h) ∙ e)
+  permitted_says e = grind (arith, permitted_at, get_or_past (permitted r t) i false)
 
 -- FILLING AND PUTTING
 
@@ -330,22 +271,13 @@ pub roomy_guard : (f : ℕ) (t : SlotTable) → Roomy t → Roomy (guard f t)
 roomy_guard f t = roomy_all (guard_slot f) t refl (λ s. keeps s s.shadow)
   where
     keeps : (s : Slot) (x : Shadow) → length (guard_as f s x).places ≡ length s.places
-    keeps s Nothing = refl
-    keeps s (Directory g) = refl
-    keeps s (Table g y) = length-map s.places (guard_leaf f)
-    keeps s (Split g) = elim (in_split f g) as (λ b. length (cond b (change_place (f - g) flag_off s) s).places ≡ length s.places) [
-      | true ↦ length-set s.places (f - g) (flag_off (get_or s.places (f - g) Empty))
-      | false ↦ refl
-    ]
+    keeps s x = grind (arith, nat_tests, length-map s.places (guard_leaf f), length-set s.places)
 
 pub roomy_evict : (i : ℕ) (t : SlotTable) → Roomy t → Roomy (evict i t)
 roomy_evict i t r = roomy_slot i (λ s. bare Nothing) (change_all (unlink_slot i) t) (λ s e. length-replicate 1024 Empty) (roomy_all (unlink_slot i) t refl (λ s. keeps s s.shadow) r)
   where
     keeps : (s : Slot) (x : Shadow) → length (unlink_as i s x).places ≡ length s.places
-    keeps s Nothing = refl
-    keeps s (Directory g) = length-map s.places (unlink_place i)
-    keeps s (Table g y) = refl
-    keeps s (Split g) = refl
+    keeps s x = grind (arith, nat_tests, length-map s.places (unlink_place i))
 
 pub roomy_fill : (i : ℕ) (x : Thing) (t : SlotTable) → Roomy t → Roomy (fill i x t)
 roomy_fill i x t = roomy_slot i (λ s. bare (shadow_of x)) t (λ s e. length-replicate 1024 Empty)
@@ -363,8 +295,7 @@ pub roomy_drop : (f j : ℕ) (t : SlotTable) → Roomy t → Roomy (drop_entry f
 roomy_drop f j t = roomy_all (drop_in_slot f j) t refl (λ s. keeps s (copies f s.shadow))
   where
     keeps : (s : Slot) (b : Bool) → length (cond b (change_place j (λ p. Empty) s) s).places ≡ length s.places
-    keeps s true = length-set s.places j Empty
-    keeps s false = refl
+    keeps s b = grind (arith, nat_tests, length-set s.places j Empty)
 
 length_checked : (ws : List ℕ) (k : ℕ) (ps : List Place) → length (check_from ws k ps) ≡ length ps
 length_checked ws k [] = refl
@@ -377,10 +308,8 @@ pub roomy_check : (i : ℕ) (ws : List ℕ) (t : SlotTable) → Roomy t → Room
 roomy_check i ws t r = go (shadow_at i t)
   where
     go : (x : Shadow) → Roomy (check_as i ws t x)
-    go Nothing = r
-    go (Directory f) = r
     go (Table f y) = roomy_guard f (change_slot i (check_slot ws) t) (roomy_checked i ws t r)
-    go (Split f) = r
+    go x = r
 
 pub roomy_resync : (m : Memory) (i : ℕ) (t : SlotTable) → Roomy t → Roomy (resync m i t)
 unfolding resync
@@ -398,20 +327,11 @@ roomy_fresh n = record {
 -- COUNTS
 
 pub count_check : (i : ℕ) (ws : List ℕ) (t : SlotTable) → (check_table i ws t).count ≡ t.count
-count_check i ws t = go (shadow_at i t)
-  where
-    go : (x : Shadow) → (check_as i ws t x).count ≡ t.count
-    go Nothing = refl
-    go (Directory f) = refl
-    go (Table f y) = refl
-    go (Split f) = refl
+count_check i ws t = grind (arith, nat_tests)
 
 pub count_resync : (m : Memory) (i : ℕ) (t : SlotTable) → (resync m i t).count ≡ t.count
 unfolding resync
-count_resync m i t = elim (lags (shadow_at i t)) as (λ b. (cond b (check_table i (frame_list m (table_frame (shadow_at i t))) t) t).count ≡ t.count) [
-  | true ↦ count_check i (frame_list m (table_frame (shadow_at i t))) t
-  | false ↦ refl
-]
+count_resync m i t = grind (arith, nat_tests, count_check i (frame_list m (table_frame (shadow_at i t))) t)
 
 -- CHECKING
 

@@ -1,21 +1,23 @@
 -- Checking unsynchronised tables keeps slots fit.
-use Rattle.std.proofs.Common.{◌≡◌, ℕ, zero, suc, ◌<◌, true, false, cond, List, [], ◌∷◌, sym, refl, ap, ◌∙◌, subst, arith}
+use Rattle.std.proofs.lemmas.Bool.Decides.{nat_tests}
+use Rattle.std.proofs.Common.{◌≡◌, ℕ, ◌<◌, false, List, [], ◌∷◌, sym, refl, ap, ◌∙◌, subst, arith}
 use Rattle.std.proofs.lemmas.Bool.{eq-eqb}
 use Rattle.memory.specs.Memory.{Memory}
 use Rattle.paging.specs.Formats.{Format}
+use Rattle.policies.specs.Orders.{numbered, times}
 use Rattle.shadow.specs.Slots.{shadow_at}
-use Rattle.slot.specs.Slot.{is_nothing, lags, shadows}
+use Rattle.slot.specs.Slot.{lags, shadows}
 use Rattle.slot.specs.declared.slots.Shadow.{Shadow}
-use Rattle.slot.specs.declared.slots.Shadow.TheVariants.{Nothing, Directory, Table, Split}
+use Rattle.slot.specs.declared.slots.Shadow.TheVariants.{Nothing, Directory, Table}
 use Rattle.shadow.specs.declared.slots.SlotTable.{SlotTable}
 use Rattle.slot.specs.declared.slots.SyncState.TheVariants.{Protected, Unsynchronised}
 use Rattle.slot.specs.declared.slots.Thing.{Thing}
+use Rattle.slot.specs.declared.slots.Thing.TheVariants as thing
 use Rattle.runs.specs.Unit.{resync, resync_all, resync_each}
-use Rattle.runs.proofs.Basics.{by_eq, clash}
 use Rattle.runs.proofs.Fewer.{Fewer, fewer_check, fewer_same, fewer_trans}
-use Rattle.runs.proofs.Good.{Fit, refit}
+use Rattle.runs.proofs.Good.{Fit, refit, rising_holds}
 use Rattle.runs.proofs.Places.{count_resync, resync_checked, resync_kept, roomy_resync, small_slot}
-use Rattle.runs.proofs.Shadows.{alike_shadows}
+use Rattle.runs.proofs.Shadows.{alike_shadows, directory_kept}
 use Rattle.runs.proofs.Sound.{Sound}
 use Rattle.runs.proofs.Sounds.{checked_alike, sound_check}
 use Rattle.runs.proofs.Views.{View, v_check, v_guard, view}
@@ -39,6 +41,10 @@ turned_trans p q = record {
   vacant = λ k e. q.vacant k (p.vacant k e);
 }
 
+pub turned_directory : {t n : SlotTable} → Turned t n → (i f : ℕ)
+    → (shadow_at i n ≡ Directory f → shadow_at i t ≡ Directory f) × (shadow_at i t ≡ Directory f → shadow_at i n ≡ Directory f)
+turned_directory u i f = (directory_kept f (u.things i (thing.Directory f)), directory_kept f (sym (u.things i (thing.Directory f))))
+
 -- one checked slot, as a view
 module _ (m : Memory) (i f : ℕ) (v : View) where
   pub check_here : (v_check m i f v).sh i ≡ Table f Protected
@@ -51,9 +57,7 @@ module _ (m : Memory) (i f : ℕ) (v : View) where
 
   pub check_vacant : v.sh i ≡ Table f Unsynchronised → (k : ℕ) → v.sh k ≡ Nothing → (v_check m i f v).sh k ≡ Nothing
   unfolding v_check v_guard
-  check_vacant at k e =
-      by_eq k i (λ b. cond b (Table f Protected) (v.sh k) ≡ Nothing)
-      (λ q. let z : Nothing ≡ Table f Unsynchronised = sym e ∙ ap v.sh q ∙ at in clash cc) (λ n. e)
+  check_vacant at k e = grind (arith, nat_tests)
 
 module _ (F : Format) (m : Memory) where
   pub record Resynced (t : SlotTable) (q : List ℕ) (i : ℕ) (n : SlotTable) : Type 0 where
@@ -68,9 +72,6 @@ module _ (F : Format) (m : Memory) where
   resynced t q i fit = go (shadow_at i t) refl
     where
       go : (x : Shadow) → shadow_at i t ≡ x → Resynced t q i (resync m i t)
-      go Nothing e = left_alone t q i fit (ap lags e)
-      go (Directory f) e = left_alone t q i fit (ap lags e)
-      go (Table f Protected) e = left_alone t q i fit (ap lags e)
       go (Table f Unsynchronised) e =
           let is = resync_checked m i f t fit.roomy e in
           let count = count_resync m i t in
@@ -84,18 +85,11 @@ module _ (F : Format) (m : Memory) where
             };
             calm = ap (λ v. lags (v.sh i)) is ∙ ap lags (check_here m i f (view t));
           }
-      go (Split f) e = left_alone t q i fit (ap lags e)
+      go x e = left_alone t q i fit (ap lags e)
 
   -- a slot that is in step stays so
   pub calm_kept : {t n : SlotTable} → Turned t n → (k : ℕ) → lags (shadow_at k t) ≡ false → lags (shadow_at k n) ≡ false
-  calm_kept {t} {n} u k e = go (shadow_at k n) refl
-    where
-      go : (x : Shadow) → shadow_at k n ≡ x → lags (shadow_at k n) ≡ false
-      go Nothing q = ap lags q
-      go (Directory f) q = ap lags q
-      go (Table f Protected) q = ap lags q
-      go (Table f Unsynchronised) q = let z : true ≡ false = sym (ap lags (u.fewer.lagging k f q)) ∙ e in clash cc
-      go (Split f) q = ap lags q
+  calm_kept {t} {n} u k e = grind (arith, nat_tests, u.fewer.lagging k)
 
   -- all of a list are checked in turn
   pub record AllCalm (t : SlotTable) (q : List ℕ) (n : SlotTable) : Type 0 where
@@ -110,7 +104,7 @@ module _ (F : Format) (m : Memory) where
       record { fit = b.fit; turned = turned_trans a.turned b.turned }
 
   abbrev eight : List ℕ
-  eight = 0 ∷ 1 ∷ 2 ∷ 3 ∷ 4 ∷ 5 ∷ 6 ∷ 7 ∷ []
+  eight = numbered 8
 
   -- the slot that is checked first, and every later one, is in step at the end
   first_calm : (i : ℕ) (is : List ℕ) (t : SlotTable) (q : List ℕ) → Fit F m t q → lags (shadow_at i (resync_each m (i ∷ is) t)) ≡ false
@@ -118,32 +112,10 @@ module _ (F : Format) (m : Memory) where
       let a = resynced t q i fit in
       calm_kept (each is (resync m i t) q a.fit).turned i a.calm
 
-  pub data In (i : ℕ) : List ℕ → Type 0 where
-    here : {is : List ℕ} → In i (i ∷ is)
-    there : {k : ℕ} {is : List ℕ} → In i is → In i (k ∷ is)
-
-  in_calm : (i : ℕ) (is : List ℕ) (t : SlotTable) (q : List ℕ) → Fit F m t q → In i is → lags (shadow_at i (resync_each m is t)) ≡ false
-  in_calm i [] t q fit p = elim p [ ]
-  in_calm i (k ∷ is) t q fit here = first_calm i is t q fit
-  in_calm i (k ∷ is) t q fit (there p) = in_calm i is (resync m k t) q (resynced t q k fit).fit p
-
-  in_eight : (k : ℕ) → k < 8 → In k eight
-  in_eight zero l = here
-  in_eight (suc zero) l = there here
-  in_eight (suc (suc zero)) l = there (there here)
-  in_eight (suc (suc (suc zero))) l = there (there (there here))
-  in_eight (suc (suc (suc (suc zero)))) l = there (there (there (there here)))
-  in_eight (suc (suc (suc (suc (suc zero))))) l = there (there (there (there (there here))))
-  in_eight (suc (suc (suc (suc (suc (suc zero)))))) l = there (there (there (there (there (there here)))))
-  in_eight (suc (suc (suc (suc (suc (suc (suc zero))))))) l = there (there (there (there (there (there (there here))))))
-  in_eight (suc (suc (suc (suc (suc (suc (suc (suc k)))))))) l = absurd (omega arith)
+  in_calm : (i : ℕ) (is : List ℕ) (t : SlotTable) (q : List ℕ) → Fit F m t q → 0 < times i is → lags (shadow_at i (resync_each m is t)) ≡ false
+  in_calm i [] t q fit p = absurd (omega arith)
+  in_calm i (k ∷ is) t q fit p = grind (arith, nat_tests, first_calm k is t q fit, in_calm i is (resync m k t) q (resynced t q k fit).fit)
 
   -- after a check of all, every table is in step
   pub all_calm : (t : SlotTable) (q : List ℕ) → Fit F m t q → (k : ℕ) → lags (shadow_at k (resync_all m t)) ≡ false
-  all_calm t q fit k = go (shadow_at k (resync_all m t)) refl
-    where
-      go : (x : Shadow) → shadow_at k (resync_all m t) ≡ x → lags (shadow_at k (resync_all m t)) ≡ false
-      go Nothing e = ap lags e
-      go (Directory f) e = ap lags e
-      go (Table f y) e = in_calm k eight t q fit (in_eight k (small_slot (resync_all m t) k (each eight t q fit).fit.roomy (ap is_nothing e)))
-      go (Split f) e = ap lags e
+  all_calm t q fit k = grind (arith, in_calm k eight t q fit, rising_holds 0 8 k, small_slot (resync_all m t) k (each eight t q fit).fit.roomy)

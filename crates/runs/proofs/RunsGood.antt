@@ -1,39 +1,29 @@
 -- Every run is good, from its opening on, and so every call answers by the laws.
-use Rattle.std.proofs.Common.{◌≡◌, ℕ, zero, suc, ◌+◌, ◌<◌, ◌≤◌, Bool, true, false, cond, ◌||◌, ltb, [], is_some, Some, None, Option, sym, refl, ap, ◌∙◌, subst, ap₂, ⊎_elim, arith}
-use Rattle.std.proofs.lemmas.Bool.{cases_eq, eq-eqb, ne_eqb}
-use Rattle.memory.specs.Memory.{Memory, has_words, stored}
+use Rattle.std.proofs.Common.{◌≡◌, ℕ, ◌≤◌, true, ◌||◌, ltb, [], is_some, Some, None, Option, sym, refl, ap, ◌∙◌, subst, ap₂, ⊎_elim, arith}
+use Rattle.std.proofs.lemmas.Bool.{cond_both, false≢true}
+use Rattle.memory.specs.Memory.{Memory, has_words}
 use Rattle.paging.specs.Formats.{Format, LawsOfMarking}
 use Rattle.paging.specs.Terms.{supervisor}
-use Rattle.policies.specs.Orders.{OrdersKept, Rule, numbered, rising, times}
+use Rattle.policies.specs.Orders.{OrdersKept, Rule, numbered}
 use Rattle.shadow.specs.Slots.{fresh, shadow_at}
 use Rattle.slot.specs.Slot.{shadows}
-use Rattle.slot.specs.declared.slots.Place.TheVariants.{Empty, Link, Leaf, Piece}
+use Rattle.slot.specs.declared.slots.Place.TheVariants.{Empty, Link}
 use Rattle.slot.specs.declared.slots.Shadow.TheVariants.{Nothing, Directory}
 use Rattle.slot.specs.declared.slots.Thing.TheVariants as thing
 use Rattle.runs.specs.Histories.{History, Opening, memory_at}
 use Rattle.runs.specs.Laws.{DoneBy, LawfulReply, Recent, after_call}
 use Rattle.runs.specs.Runs.{Bounded, CallsLawful, Run, goes, opened}
-use Rattle.runs.specs.Terms.{Call, access, close_run, deliver, done, flush_all, flush_page, give_up, no_exit, open_run, poke, set_mode, switch_root}
-use Rattle.runs.specs.Unit.{Ended, Running, State, Taken, no_tallies, opened_at, refuse, step, step_in, take_slot}
-use Rattle.runs.proofs.Basics.{clash, untrue}
+use Rattle.runs.specs.Terms.{Call, no_exit, open_run, poke}
+use Rattle.runs.specs.Unit.{Running, State, Taken, no_tallies, opened_at, refuse, step, step_in, take_slot}
 use Rattle.runs.proofs.Counting.{tallied_none}
 use Rattle.runs.proofs.Calls.{call_fine}
-use Rattle.runs.proofs.Good.{Fit, Good}
+use Rattle.runs.proofs.Good.{Fit, Good, rising_holds}
 use Rattle.runs.proofs.Missing.{root_slot_is}
 use Rattle.runs.proofs.Places.{fresh_place, fresh_shadow, roomy_fresh}
 use Rattle.runs.proofs.Shadows.{is_directory_at, nothing_shadows}
 use Rattle.runs.proofs.Sound.{Backed, Sound, opens}
 use Rattle.runs.proofs.Taking.{Got, free_any, took}
 use Rattle.runs.proofs.Views.{view}
-
--- each number of a rising order stands in it
-rising_holds : (a k i : ℕ) → a ≤ i → i < a + k → 0 < times i (rising a k)
-rising_holds a zero i l u = absurd (omega arith)
-rising_holds a (suc k) i l u =
-    ⊎_elim
-    (λ e. rw (eq-eqb a i e) (omega arith))
-    (λ n. rw (ne_eqb a i n) (let v = rising_holds (suc a) k i (let w : a ≤ i = l in omega arith) (omega arith) in omega arith))
-    (cases_eq a i)
 
 abbrev made : Memory → Option Running → State
 made m r = record { memory = m; run = r }
@@ -42,14 +32,16 @@ module _ (F : Format) (m : Memory) (n : ℕ) where
   -- empty slots are sound
   fresh_sound : Sound F m (view (fresh n))
   fresh_sound = record {
-    unique = λ i k x p q. untrue (sym (ap (λ y. shadows y x) (fresh_shadow i n) ∙ nothing_shadows x) ∙ p);
-    backed = λ i. subst (Backed m) (sym (fresh_shadow i n)) tt;
-    within = λ i j l. fresh_place i j n;
-    links = λ i d w s e. let c : Empty ≡ Link w s = sym (fresh_place i d n) ∙ e in clash cc;
-    leaves = λ i j w a b e. let c : Empty ≡ Leaf w a b = sym (fresh_place i j n) ∙ e in clash cc;
-    pieces = λ i j b e. let c : Empty ≡ Piece b = sym (fresh_place i j n) ∙ e in clash cc;
-    shut = λ i j g k e. untrue (sym (ap (λ p. opens j (shadow_at i (fresh n)) g p) (fresh_place i j n)) ∙ e);
-    apart = λ i k f e q. let c : Nothing ≡ Directory f = sym (fresh_shadow k n) ∙ q in clash cc;
+    framed = record {
+      unique = λ i k x p q. cc (fresh_shadow i n, nothing_shadows x);
+      backed = λ i. subst (Backed m) (sym (fresh_shadow i n)) tt;
+      within = λ i j l. fresh_place i j n;
+      links = λ i d w s e. absurd (cc (sym (fresh_place i d n) ∙ e));
+      leaves = λ i j w a b e. absurd (cc (sym (fresh_place i j n) ∙ e));
+      pieces = λ i j b e. absurd (cc (sym (fresh_place i j n) ∙ e));
+      apart = λ i k f e q. cc (sym (fresh_shadow k n) ∙ q);
+    };
+    shut = λ i j g k e. absurd (false≢true (sym (ap (λ p. opens j (shadow_at i (fresh n)) g p) (fresh_place i j n)) ∙ e));
   }
 
   fresh_fit : 2 ≤ n → n ≤ 8 → Fit F m (fresh n) (numbered n)
@@ -90,11 +82,11 @@ module _ (F : Format) (laws : LawsOfMarking F) (R : Rule) (kept_order : OrdersKe
             mode = refl;
             fit = first.fit;
             rooted = ap (λ (i : ℕ). shadow_at i K.table) (root_slot_is F o.memory K.table K.order first.fit root K.slot at) ∙ at;
-            were = λ i f z never. ⊎_elim (λ q. let c : Nothing ≡ Directory f = sym (fresh_shadow i n) ∙ q in clash cc) (λ q. let c : root ≡ f = cc in never c) (first.dirs i f z);
+            were = λ i f z never. ⊎_elim (λ q. let c : Nothing ≡ Directory f = sym (fresh_shadow i n) ∙ q in cc) (λ q. let c : root ≡ f = cc in never c) (first.dirs i f z);
             raised = tt;
             tallied = tallied_none;
             bounded = bounded;
-            past = λ i b w s f x c z q link lag leaf. let c : Empty ≡ Link w s = sym (fresh_place i _ n) ∙ first.fewer.links i _ w s link in clash cc;
+            past = λ i b w s f x c z q link lag leaf. let c : Empty ≡ Link w s = sym (fresh_place i _ n) ∙ first.fewer.links i _ w s link in cc;
             ready = λ a z. silent _ _ _ z;
           }),
         )
@@ -107,7 +99,7 @@ module _ (F : Format) (laws : LawsOfMarking F) (R : Rule) (kept_order : OrdersKe
   step_next h s c good e = go s.run refl
     where
       go : (x : Option Running) → s.run ≡ x → LawfulReply F o h c (step R F s c).reply × GoodState (after_call o h c (step R F s c).reply) (step R F s c).next
-      go None q = untrue (sym (ap is_some q) ∙ e)
+      go None q = absurd cc
       go (Some r) q =
           let k = good r q in
           subst (λ (y : State). LawfulReply F o h c (step R F y c).reply × GoodState (after_call o h c (step R F y c).reply) (step R F y c).next)
@@ -130,22 +122,10 @@ module _ (F : Format) (laws : LawsOfMarking F) (R : Rule) (kept_order : OrdersKe
       go (Some r) q = (step_next h s c (good_run run) (ap is_some q)).0
       go None q = subst (λ (y : Option Running). LawfulReply F o h c (step_in R F s c y).reply) (sym q) (closed_lawful s c)
         where
-          either : (b : Bool) (x y : Ended) → DoneBy no_exit x.reply → DoneBy no_exit y.reply → DoneBy no_exit (cond b x y).reply
-          either true x y p q = p
-          either false x y p q = q
-
           closed_lawful : (s : State) (c : Call) → LawfulReply F o h c (step_in R F s c None).reply
-          closed_lawful s (open_run f n) = either (ltb n 2 || ltb 8 n) (refuse s 4) _ tt (either (has_words (s.memory f)) (record { reply = done no_exit; next = opened_at R s.memory f n }) (refuse s 3) refl tt)
-          closed_lawful s (access k a w) = tt
-          closed_lawful s flush_all = tt
-          closed_lawful s (flush_page a) = tt
-          closed_lawful s (switch_root f) = tt
-          closed_lawful s (set_mode p) = tt
-          closed_lawful s (deliver x) = tt
-          closed_lawful s (give_up x) = tt
-          closed_lawful s close_run = tt
-          closed_lawful s (poke f i w) =
-              either (ltb 1023 i) (refuse s 8) _ tt (either (has_words (s.memory f)) (record { reply = done no_exit; next = record { memory = stored s.memory f i w; run = None } }) (refuse s 3) refl tt)
+          closed_lawful s (open_run f n) = cond_both (ltb n 2 || ltb 8 n) (refuse s 4) _ (λ e. DoneBy no_exit e.reply) (λ b. tt) (λ b. cond_both (has_words (s.memory f)) _ (refuse s 3) (λ e. DoneBy no_exit e.reply) (λ d. refl) (λ d. tt))
+          closed_lawful s (poke f i w) = cond_both (ltb 1023 i) (refuse s 8) _ (λ e. DoneBy no_exit e.reply) (λ b. tt) (λ b. cond_both (has_words (s.memory f)) _ (refuse s 3) (λ e. DoneBy no_exit e.reply) (λ d. refl) (λ d. tt))
+          closed_lawful s c = tt
 
 pub calls_lawful : (F : Format) → LawsOfMarking F → (R : Rule) → OrdersKept R → CallsLawful F R
 calls_lawful F laws R kept s c = record { law = λ o h run. law_of F laws R kept o h s c run; on = λ o h run e. goes run c e }

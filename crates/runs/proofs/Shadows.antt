@@ -1,6 +1,7 @@
 -- What tests of a shadow say, what shadows a thing, and what a directory's word names.
-use Rattle.std.proofs.Common.{◌≡◌, ℕ, Bool, true, false, cond, ◌&&◌, eqb, sym, refl, ap, ◌∙◌}
-use Rattle.std.proofs.lemmas.Bool.{and_parts, eq-eqb, eqb-true}
+use Rattle.std.proofs.lemmas.Bool.Decides.{nat_tests}
+use Rattle.std.proofs.Common.{◌≡◌, ℕ, Bool, true, false, cond, sym, refl, ap, ◌∙◌, arith}
+use Rattle.std.proofs.lemmas.Bool.{eq-eqb, eqb-true}
 use Rattle.memory.specs.Answers.{Answer}
 use Rattle.paging.specs.Terms.{is_table}
 use Rattle.slot.specs.Slot.{is_directory_of, is_nothing, is_split_of, is_table_of, lags, protects, shadow_of, shadows, with_sync}
@@ -11,130 +12,93 @@ use Rattle.slot.specs.declared.slots.SyncState.TheVariants.{Protected, Unsynchro
 use Rattle.slot.specs.declared.slots.Thing.{Thing}
 use Rattle.slot.specs.declared.slots.Thing.TheVariants as thing
 use Rattle.runs.specs.Unit.{thing_named}
-use Rattle.runs.proofs.Basics.{clash, not_yes, untrue}
 use Rattle.runs.proofs.Sound.{guards}
 
 -- TESTS
 
 pub is_nothing_at : (x : Shadow) → is_nothing x ≡ true → x ≡ Nothing
-is_nothing_at Nothing e = refl
-is_nothing_at (Directory f) e = untrue e
-is_nothing_at (Table f y) e = untrue e
-is_nothing_at (Split f) e = untrue e
+is_nothing_at x e = grind (arith, nat_tests)
 
 pub is_directory_at : (f : ℕ) (x : Shadow) → is_directory_of f x ≡ true → x ≡ Directory f
-is_directory_at f Nothing e = untrue e
-is_directory_at f (Directory g) e = ap Directory (eqb-true g f e)
-is_directory_at f (Table g y) e = untrue e
-is_directory_at f (Split g) e = untrue e
+is_directory_at f x e = grind (arith, nat_tests)
 
 pub is_table_at : (f : ℕ) (x : Shadow) → is_table_of f x ≡ true → (y : SyncState) × (x ≡ Table f y)
-is_table_at f Nothing e = untrue e
-is_table_at f (Directory g) e = untrue e
 is_table_at f (Table g y) e = (y, ap (λ (n : ℕ). Table n y) (eqb-true g f e))
-is_table_at f (Split g) e = untrue e
+is_table_at f x e = absurd cc
 
 pub is_split_at : (f : ℕ) (x : Shadow) → is_split_of f x ≡ true → x ≡ Split f
-is_split_at f Nothing e = untrue e
-is_split_at f (Directory g) e = untrue e
-is_split_at f (Table g y) e = untrue e
-is_split_at f (Split g) e = ap Split (eqb-true g f e)
+is_split_at f x e = grind (arith, nat_tests)
 
 pub directory_here : (f : ℕ) → is_directory_of f (Directory f) ≡ true
 directory_here f = eq-eqb f f refl
 
+-- a shadow of what another one shadows is of the same directory
+pub directory_kept : (f : ℕ) {x y : Shadow} → shadows x (thing.Directory f) ≡ shadows y (thing.Directory f) → x ≡ Directory f → y ≡ Directory f
+directory_kept f {x} {y} same e = is_directory_at f y (sym same ∙ ap (is_directory_of f) e ∙ directory_here f)
+
 pub table_here : (f : ℕ) (y : SyncState) → is_table_of f (Table f y) ≡ true
 table_here f y = eq-eqb f f refl
 
-pub same_directory : (a b : ℕ) (x : Shadow) → x ≡ Directory a → x ≡ Directory b → a ≡ b
-same_directory a b x p q = cc
-
-pub same_table : (a b : ℕ) (y z : SyncState) (x : Shadow) → x ≡ Table a y → x ≡ Table b z → a ≡ b
-same_table a b y z x p q = cc
-
 -- what protects a frame is a protected table of it
 pub protected_table : (f : ℕ) (x : Shadow) → protects f x ≡ true → x ≡ Table f Protected
-protected_table f Nothing e = untrue e
-protected_table f (Directory g) e = untrue e
-protected_table f (Table g Protected) e = ap (λ (n : ℕ). Table n Protected) (eqb-true g f (and_parts (eqb g f) true e).0)
-protected_table f (Table g Unsynchronised) e = untrue (and_parts (eqb g f) false e).1
-protected_table f (Split g) e = untrue e
+protected_table f x e = grind (arith, nat_tests)
 
 -- a frame that no directory and no protected table shadows is not guarded
 pub unguarded : (f : ℕ) (x : Shadow) → is_directory_of f x ≡ false → protects f x ≡ false → guards f x ≡ false
-unguarded f Nothing p q = refl
-unguarded f (Directory g) p q = p
-unguarded f (Table g Protected) p q = not_yes (eqb g f) (λ e. clash (cc (sym (ap (λ b. b && true) e) ∙ q)))
-unguarded f (Table g Unsynchronised) p q = refl
-unguarded f (Split g) p q = refl
+unguarded f x p q = grind (arith, nat_tests)
 
 -- THINGS
 
 pub nothing_shadows : (x : Thing) → shadows Nothing x ≡ false
-nothing_shadows (thing.Directory f) = refl
-nothing_shadows (thing.Table f) = refl
-nothing_shadows (thing.Split f) = refl
+nothing_shadows x = grind (arith, nat_tests)
+
+-- what a slot shadows that was perhaps emptied, it shadowed
+pub emptied_shadows : (b : Bool) (x : Shadow) (t : Thing) → shadows (cond b Nothing x) t ≡ true → shadows x t ≡ true
+emptied_shadows b x t e = grind (arith, nat_tests, nothing_shadows t)
 
 -- what shadows a thing is not nothing
 pub filled : (x : Shadow) (t : Thing) → shadows x t ≡ true → is_nothing x ≡ false
-filled Nothing t e = untrue (sym (nothing_shadows t) ∙ e)
-filled (Directory f) t e = refl
-filled (Table f y) t e = refl
-filled (Split f) t e = refl
+filled x t e = grind (arith, nat_tests, nothing_shadows t)
 
 -- how a slot shadows a thing at first
 pub new_shadows : (x : Thing) → shadows (shadow_of x) x ≡ true
-new_shadows (thing.Directory f) = eq-eqb f f refl
-new_shadows (thing.Table f) = eq-eqb f f refl
-new_shadows (thing.Split f) = eq-eqb f f refl
+new_shadows x = grind (arith, nat_tests)
 
 pub new_calm : (x : Thing) → lags (shadow_of x) ≡ false
-new_calm (thing.Directory f) = refl
-new_calm (thing.Table f) = refl
-new_calm (thing.Split f) = refl
+new_calm x = grind (arith, nat_tests)
+
+-- no unsynchronised table is in step
+pub calm_no_table : {A : Type 0} {x : Shadow} {f : ℕ} → lags x ≡ false → x ≡ Table f Unsynchronised → A
+calm_no_table calm e = cc
 
 pub new_protected : (x : Thing) (f : ℕ) → shadow_of x ≡ Table f Unsynchronised → ⊥
-new_protected x f e = untrue (sym (new_calm x) ∙ ap lags e)
+new_protected x f e = cc (new_calm x)
 
 pub new_directory : (x : Thing) (f : ℕ) → shadow_of x ≡ Directory f → x ≡ thing.Directory f
-new_directory (thing.Directory g) f e = let z : g ≡ f = cc in ap thing.Directory z
-new_directory (thing.Table g) f e = clash cc
-new_directory (thing.Split g) f e = clash cc
+new_directory x f e = grind (arith, nat_tests)
 
 -- it is of that thing alone
 pub new_only : (x y : Thing) → shadows (shadow_of x) y ≡ true → x ≡ y
-new_only (thing.Directory f) (thing.Directory g) e = ap thing.Directory (eqb-true f g e)
-new_only (thing.Directory f) (thing.Table g) e = untrue e
-new_only (thing.Directory f) (thing.Split g) e = untrue e
-new_only (thing.Table f) (thing.Directory g) e = untrue e
-new_only (thing.Table f) (thing.Table g) e = ap thing.Table (eqb-true f g e)
-new_only (thing.Table f) (thing.Split g) e = untrue e
-new_only (thing.Split f) (thing.Directory g) e = untrue e
-new_only (thing.Split f) (thing.Table g) e = untrue e
-new_only (thing.Split f) (thing.Split g) e = ap thing.Split (eqb-true f g e)
+new_only x y e = grind (arith, nat_tests)
 
 -- WHAT A WORD NAMES
 
 pub named_by : (r : Answer) (b : Bool) → is_table r ≡ b → thing_named r ≡ cond b (thing.Table r.value) (thing.Split r.value)
 named_by r b e = rw e
 
+-- by what its slot shadows
+named_as : (r : Answer) (P : Bool → Type 0) (x : Shadow) → (shadows x (thing.Table r.value) ≡ true → P true) → (shadows x (thing.Split r.value) ≡ true → P false) → shadows x (thing_named r) ≡ true → P (is_table r)
+named_as r P x t s = elim (is_table r) as (λ b. shadows x (cond b (thing.Table r.value) (thing.Split r.value)) ≡ true → P b) [ true ↦ t | false ↦ s ]
+
 -- where its slot shadows a table, a split or a directory
 pub named_table : (r : Answer) (f : ℕ) (y : SyncState) → shadows (Table f y) (thing_named r) ≡ true → (is_table r ≡ true) × (r.value ≡ f)
-named_table r f y e = go (is_table r) refl
-  where
-    go : (b : Bool) → is_table r ≡ b → (is_table r ≡ true) × (r.value ≡ f)
-    go true q = (q, sym (eqb-true f r.value (ap (shadows (Table f y)) (sym (named_by r true q)) ∙ e)))
-    go false q = untrue (ap (shadows (Table f y)) (sym (named_by r false q)) ∙ e)
+named_table r f y = named_as r (λ b. (b ≡ true) × (r.value ≡ f)) (Table f y) (λ e. (refl, sym (eqb-true f r.value e))) (λ e. absurd cc)
 
 pub named_split : (r : Answer) (f : ℕ) → shadows (Split f) (thing_named r) ≡ true → (is_table r ≡ false) × (r.value ≡ f)
-named_split r f e = go (is_table r) refl
-  where
-    go : (b : Bool) → is_table r ≡ b → (is_table r ≡ false) × (r.value ≡ f)
-    go true q = untrue (ap (shadows (Split f)) (sym (named_by r true q)) ∙ e)
-    go false q = (q, sym (eqb-true f r.value (ap (shadows (Split f)) (sym (named_by r false q)) ∙ e)))
+named_split r f = named_as r (λ b. (b ≡ false) × (r.value ≡ f)) (Split f) (λ e. absurd cc) (λ e. (refl, sym (eqb-true f r.value e)))
 
 pub named_no_directory : (r : Answer) (f : ℕ) → shadows (Directory f) (thing_named r) ≡ true → ⊥
-named_no_directory r f = elim (is_table r) as (λ b. shadows (Directory f) (cond b (thing.Table r.value) (thing.Split r.value)) ≡ true → ⊥) [ true ↦ untrue | false ↦ untrue ]
+named_no_directory r f = named_as r (λ b. ⊥) (Directory f) (λ e. cc) (λ e. cc)
 
 -- THE STATE OF A TABLE
 
@@ -150,24 +114,20 @@ alike_sym state = state
 pub alike_shadows : {x y : Shadow} → Alike x y → (t : Thing) → shadows x t ≡ shadows y t
 alike_shadows as_is t = refl
 alike_shadows state (thing.Directory g) = refl
-alike_shadows state (thing.Table g) = refl
-alike_shadows state (thing.Split g) = refl
+alike_shadows state t = refl
 
 pub alike_directory : {x y : Shadow} → Alike x y → (r : ℕ) → y ≡ Directory r → x ≡ Directory r
 alike_directory as_is r e = e
-alike_directory state r e = clash cc
+alike_directory state r e = cc
 
 pub alike_split : {x y : Shadow} → Alike x y → (f : ℕ) → y ≡ Split f → x ≡ Split f
 alike_split as_is f e = e
-alike_split state f e = clash cc
+alike_split state f e = cc
 
 pub alike_table : {x y : Shadow} → Alike x y → (f : ℕ) (s : SyncState) → y ≡ Table f s → (t : SyncState) × (x ≡ Table f t)
 alike_table as_is f s e = (s, e)
 alike_table (state {y = y}) f s e = (y, cc)
 
 pub sync_alike : (b : Bool) (y : SyncState) (x : Shadow) → Alike (cond b (with_sync y x) x) x
-sync_alike false y x = as_is
-sync_alike true y Nothing = as_is
-sync_alike true y (Directory f) = as_is
 sync_alike true y (Table f z) = state
-sync_alike true y (Split f) = as_is
+sync_alike b y x = as_is

@@ -87,7 +87,8 @@ Backed m (Directory f) = has_words (m f) ≡ true
 Backed m (Table f y) = has_words (m f) ≡ true
 Backed m (Split f) = Unit {0}
 
-pub record Sound (F : Format) (m : Memory) (v : View) : Type 0 where
+-- all but the flags
+pub record Framed (F : Format) (m : Memory) (v : View) : Type 0 where
   -- one slot for each thing
   pub unique : (i k : ℕ) (x : Thing) → shadows (v.sh i) x ≡ true → shadows (v.sh k) x ≡ true → i ≡ k
   pub backed : (i : ℕ) → Backed m (v.sh i)
@@ -95,10 +96,13 @@ pub record Sound (F : Format) (m : Memory) (v : View) : Type 0 where
   pub links : (i d w s : ℕ) → v.pl i d ≡ Link w s → Linked F m v i d w s
   pub leaves : (i j w a : ℕ) (b : Bool) → v.pl i j ≡ Leaf w a b → Leafed F m v i j w a
   pub pieces : (i j : ℕ) (b : Bool) → v.pl i j ≡ Piece b → Pieced m v i j
-  -- no place lets a store through to a guarded frame
-  pub shut : (i j g k : ℕ) → opens j (v.sh i) g (v.pl i j) ≡ true → guards g (v.sh k) ≡ false
   -- no unsynchronised table lies on a directory's frame
   pub apart : (i k f : ℕ) → v.sh i ≡ Table f Unsynchronised → v.sh k ≡ Directory f → ⊥
+
+pub record Sound (F : Format) (m : Memory) (v : View) : Type 0 where
+  pub framed : Framed F m v
+  -- no place lets a store through to a guarded frame
+  pub shut : (i j g k : ℕ) → opens j (v.sh i) g (v.pl i j) ≡ true → guards g (v.sh k) ≡ false
 
 -- a memory after marks: the same frames have words, and every word has only been marked
 pub record Raises (F : Format) (m n : Memory) : Type 0 where

@@ -1,7 +1,8 @@
 -- Each operation on a view keeps it sound.
+use Rattle.std.proofs.lemmas.Bool.Decides.{nat_tests}
 use Rattle.std.proofs.Common.{◌≡◌, ℕ, ◌+◌, ◌<◌, ◌≤◌, Bool, true, false, cond, ◌&&◌, eqb, ◌⊎◌, sym, refl, ap, ◌∙◌, subst, inl, inr, arith}
 use mathlib.Core.Path.{fun_ext}
-use Rattle.std.proofs.lemmas.Bool.{and_parts, and_right, cases_eq, cases_lt, eq-eqb, eqb-true, ne_eqb}
+use Rattle.std.proofs.lemmas.Bool.{and_parts, cases_eq, eq-eqb, eqb-true, ne_eqb}
 use Rattle.memory.specs.Memory.{Memory, has_words, stored}
 use Rattle.paging.specs.Formats.{Format}
 use Rattle.slot.specs.Slot.{check_place, copies, flag_off, is_directory_of, is_split_of, is_table_of, shadow_of, shadows, unlink_place, with_sync}
@@ -14,12 +15,12 @@ use Rattle.slot.specs.declared.slots.SyncState.TheVariants.{Protected, Unsynchro
 use Rattle.slot.specs.declared.slots.Thing.{Thing}
 use Rattle.slot.specs.declared.slots.Thing.TheVariants as thing
 use Rattle.runs.specs.Laws.{word_at}
-use Rattle.runs.proofs.Basics.{by_eq, by_eq₂, clash, cond_other, elim_eq, untrue}
+use Rattle.runs.proofs.Basics.{by_eq, by_eq₂}
 use Rattle.runs.proofs.Losses.{Less, checked_less, guard_at_less, kept, less_cond, less_empty, less_leaf, less_link, less_opens, less_piece, unlink_less}
 use Rattle.runs.proofs.Memories.{has_stored, up_trans, word_stored_other}
-use Rattle.runs.proofs.Shadows.{Alike, alike_directory, alike_shadows, alike_split, alike_sym, alike_table, as_is, new_only, new_protected, nothing_shadows, same_directory, same_table, state, sync_alike, table_here}
-use Rattle.runs.proofs.Sound.{Backed, Leads, Leafed, Linked, Pages, Pieced, Raises, Sound, Up, guards, named, opens, same}
-use Rattle.runs.proofs.Views.{View, guard_at, unlink_at, v_check, v_checked, v_drop, v_evict, v_fill, v_flag_off, v_guard, v_put, v_sync}
+use Rattle.runs.proofs.Shadows.{Alike, alike_directory, alike_shadows, alike_split, alike_sym, alike_table, as_is, emptied_shadows, new_only, new_protected, nothing_shadows, state, sync_alike}
+use Rattle.runs.proofs.Sound.{Backed, Framed, Leads, Leafed, Linked, Pages, Pieced, Raises, Sound, Up, guards, named, opens, same}
+use Rattle.runs.proofs.Views.{View, unlink_at, v_check, v_checked, v_drop, v_evict, v_fill, v_flag_off, v_guard, v_put, v_sync}
 
 -- WORDS OF THE GUEST
 
@@ -27,31 +28,30 @@ module _ (F : Format) (m : Memory) (v : View) (sound : Sound F m v) (i j : ℕ) 
   -- a link is the guest's word, but for marks
   pub link_now : (f w s : ℕ) → v.sh i ≡ Directory f → v.pl i j ≡ Link w s → Up F w (word_at m f j)
   link_now f w s at p =
-      let l = sound.links i j w s p in
-      subst (λ (n : ℕ). Up F w (word_at m n j)) (same_directory l.root f (v.sh i) l.is at) l.up
+      let l = sound.framed.links i j w s p in
+      let same_root : l.root ≡ f = cc (l.is, at) in
+      subst (λ (n : ℕ). Up F w (word_at m n j)) same_root l.up
 
   -- .. and so is a leaf of a protected table
   pub leaf_now : (f w a : ℕ) (b : Bool) → v.sh i ≡ Table f Protected → v.pl i j ≡ Leaf w a b → Up F w (word_at m f j)
   leaf_now f w a b at p =
-      let l = sound.leaves i j w a b p in
+      let l = sound.framed.leaves i j w a b p in
       let st : l.state ≡ Protected = cc (l.is, at) in
-      subst (λ (n : ℕ). Up F w (word_at m n j)) (same_table l.frame f l.state Protected (v.sh i) l.is at) (l.up st)
+      let same_frame : l.frame ≡ f = cc (l.is, at) in
+      subst (λ (n : ℕ). Up F w (word_at m n j)) same_frame (l.up st)
 
 -- SHADOWS ALIKE
 
 alike_opens : {x y : Shadow} → Alike x y → (j g : ℕ) (p : Place) → opens j x g p ≡ true → opens j y g p ≡ true
 alike_opens as_is j g p e = e
 alike_opens state j g Empty e = e
-alike_opens state j g (Link w s) e = e
-alike_opens state j g (Leaf w a b) e = e
-alike_opens state j g (Piece b) e = e
+alike_opens state j g p e = e
 
 module _ (m n : Memory) (has : (f : ℕ) → has_words (n f) ≡ has_words (m f)) where
   backed_has : (x : Shadow) → Backed m x → Backed n x
-  backed_has Nothing h = h
   backed_has (Directory f) h = has f ∙ h
   backed_has (Table f y) h = has f ∙ h
-  backed_has (Split f) h = h
+  backed_has x h = h
 
   alike_backed : {x y : Shadow} → Alike x y → Backed m y → Backed n x
   alike_backed (as_is {x}) h = backed_has x h
@@ -59,20 +59,8 @@ module _ (m n : Memory) (has : (f : ℕ) → has_words (n f) ≡ has_words (m f)
 
 -- SOUND BUT FOR THE FLAGS
 
-record Framed (F : Format) (m : Memory) (v : View) : Type 0 where
-  unique : (i k : ℕ) (x : Thing) → shadows (v.sh i) x ≡ true → shadows (v.sh k) x ≡ true → i ≡ k
-  backed : (i : ℕ) → Backed m (v.sh i)
-  within : (i j : ℕ) → 1024 ≤ j → v.pl i j ≡ Empty
-  links : (i d w s : ℕ) → v.pl i d ≡ Link w s → Linked F m v i d w s
-  leaves : (i j w a : ℕ) (b : Bool) → v.pl i j ≡ Leaf w a b → Leafed F m v i j w a
-  pieces : (i j : ℕ) (b : Bool) → v.pl i j ≡ Piece b → Pieced m v i j
-  apart : (i k f : ℕ) → v.sh i ≡ Table f Unsynchronised → v.sh k ≡ Directory f → ⊥
-
-framed : {F : Format} {m : Memory} {v : View} → Sound F m v → Framed F m v
-framed s = record { unique = s.unique; backed = s.backed; within = s.within; links = s.links; leaves = s.leaves; pieces = s.pieces; apart = s.apart }
-
-flagged : {F : Format} {m : Memory} {v : View} → Framed F m v → ((i j g k : ℕ) → opens j (v.sh i) g (v.pl i j) ≡ true → guards g (v.sh k) ≡ false) → Sound F m v
-flagged s shut = record { unique = s.unique; backed = s.backed; within = s.within; links = s.links; leaves = s.leaves; pieces = s.pieces; shut = shut; apart = s.apart }
+sound_by : {F : Format} {m : Memory} {v : View} → Framed F m v → ((i j g k : ℕ) → opens j (v.sh i) g (v.pl i j) ≡ true → guards g (v.sh k) ≡ false) → Sound F m v
+sound_by framed shut = record { framed = framed; shut = shut }
 
 -- the same things in the same slots, and no more in the places
 framed_alike : (F : Format) (m n : Memory) (v u : View) → Framed F m v
@@ -115,31 +103,7 @@ module _ (F : Format) (m : Memory) (v : View) where
 
   shut_framed : Framed F m v → (f i j : ℕ) → opens j ((v_guard f v).sh i) f ((v_guard f v).pl i j) ≡ false
   unfolding v_guard
-  shut_framed fr f i j = go (v.sh i) (v.pl i j) refl refl
-    where
-      -- a leaf stands in a table
-      leaf_in : (w a : ℕ) (b : Bool) → v.pl i j ≡ Leaf w a b → (x : Shadow) → v.sh i ≡ x → (t : Bool) → ((g : ℕ) (y : SyncState) → x ≡ Table g y → t ≡ false) → t ≡ false
-      leaf_in w a b q x p t h = let l = fr.leaves i j w a b q in h l.frame l.state (sym p ∙ l.is)
-
-      go : (x : Shadow) (p : Place) → v.sh i ≡ x → v.pl i j ≡ p → opens j x f (guard_at f j x p) ≡ false
-      go Nothing Empty e q = refl
-      go Nothing (Link w s) e q = refl
-      go Nothing (Leaf w a b) e q = leaf_in w a b q Nothing e (b && eqb a f) (λ g y z. clash cc)
-      go Nothing (Piece b) e q = refl
-      go (Directory r) Empty e q = refl
-      go (Directory r) (Link w s) e q = refl
-      go (Directory r) (Leaf w a b) e q = leaf_in w a b q (Directory r) e (b && eqb a f) (λ g y z. clash cc)
-      go (Directory r) (Piece b) e q = refl
-      go (Table g y) Empty e q = refl
-      go (Table g y) (Link w s) e q = refl
-      go (Table g y) (Leaf w a b) e q =
-          elim_eq (eqb a f) (λ t. opens j (Table g y) f (cond t (Leaf w a false) (Leaf w a b)) ≡ false) (λ t. refl) (λ t. and_right b (eqb a f) t)
-      go (Table g y) (Piece b) e q = refl
-      go (Split g) Empty e q = elim (eqb (g + j) f) as (λ t. opens j (Split g) f (cond t Empty Empty) ≡ false) [ true ↦ refl | false ↦ refl ]
-      go (Split g) (Link w s) e q = elim (eqb (g + j) f) as (λ t. opens j (Split g) f (cond t (Link w s) (Link w s)) ≡ false) [ true ↦ refl | false ↦ refl ]
-      go (Split g) (Leaf w a b) e q = leaf_in w a b q (Split g) e (opens j (Split g) f (guard_at f j (Split g) (Leaf w a b))) (λ h y z. clash cc)
-      go (Split g) (Piece b) e q =
-          elim_eq (eqb (g + j) f) (λ t. opens j (Split g) f (cond t (Piece false) (Piece b)) ≡ false) (λ t. refl) (λ t. and_right b (eqb (g + j) f) t)
+  shut_framed fr f i j = grind (arith, nat_tests, fr.leaves i j)
 
   guard_framed : Framed F m v → (f : ℕ) → Framed F m (v_guard f v)
   unfolding v_guard
@@ -147,42 +111,32 @@ module _ (F : Format) (m : Memory) (v : View) where
 
   guard_almost : (f : ℕ) → Framed F m v → ShutBut f → Sound F m (v_guard f v)
   unfolding v_guard
-  guard_almost f fr shut = flagged (guard_framed fr f) (λ i j g k e. shuts i j g k e (cases_eq g f))
+  guard_almost f fr shut = sound_by (guard_framed fr f) (λ i j g k e. shuts i j g k e (cases_eq g f))
     where
       shuts : (i j g k : ℕ) → opens j ((v_guard f v).sh i) g ((v_guard f v).pl i j) ≡ true → (g ≡ f) ⊎ (g ≡ f → ⊥) → guards g ((v_guard f v).sh k) ≡ false
-      shuts i j g k e (inl q) = untrue (sym (shut_framed fr f i j) ∙ subst (λ x. opens j ((v_guard f v).sh i) x ((v_guard f v).pl i j) ≡ true) q e)
+      shuts i j g k e (inl q) = cc (shut_framed fr f i j)
       shuts i j g k e (inr q) = shut i j g k q (guard_less v f i j g e)
 
 -- STORES
 
 module _ (F : Format) (m : Memory) (v : View) (sound : Sound F m v) where
   inside : (i j : ℕ) → (v.pl i j ≡ Empty → ⊥) → j < 1024
-  inside i j stands = go (cases_lt j 1024)
-    where
-      go : (j < 1024) ⊎ (1024 ≤ j) → j < 1024
-      go (inl h) = h
-      go (inr h) = absurd (stands (sound.within i j h))
-
-  link_inside : (i j w s : ℕ) → v.pl i j ≡ Link w s → j < 1024
-  link_inside i j w s e = inside i j (λ z. clash cc)
-
-  leaf_inside : (i j w a : ℕ) (b : Bool) → v.pl i j ≡ Leaf w a b → j < 1024
-  leaf_inside i j w a b e = inside i j (λ z. clash cc)
+  inside i j stands = grind (arith, sound.framed.within i j)
 
   pub sound_raise : (n : Memory) → Raises F m n → Sound F n v
-  sound_raise n ra = flagged (framed_alike F m n v v (framed sound) ra.has (λ k. as_is) (λ i j. kept)
-      (λ i j r w s e d p. up_trans p (ra.up r j (link_inside i j w s e)))
-      (λ i j f w a b e d p. up_trans (p d) (ra.up f j (leaf_inside i j w a b e)))
-      sound.apart) sound.shut
+  sound_raise n ra = sound_by (framed_alike F m n v v sound.framed ra.has (λ k. as_is) (λ i j. kept)
+      (λ i j r w s e d p. up_trans p (ra.up r j (inside i j (λ z. cc))))
+      (λ i j f w a b e d p. up_trans (p d) (ra.up f j (inside i j (λ z. cc))))
+      sound.framed.apart) sound.shut
 
   moved : (g i w r j x : ℕ) → i < 1024 → j < 1024 → ((r ≡ g) × (j ≡ i) → ⊥) → Up F x (word_at m r j) → Up F x (word_at (stored m g i w) r j)
   moved g i w r j x h k other p = subst (λ y. Up F x y) (sym (word_stored_other m g i w r j h k (λ z. other (sym z.0, sym z.1)))) p
 
   pub sound_store : (g i w : ℕ) → i < 1024 → ((k : ℕ) → guards g (v.sh k) ≡ false) → Sound F (stored m g i w) v
-  sound_store g i w h free = flagged (framed_alike F m _ v v (framed sound) (has_stored m g i w) (λ k. as_is) (λ a j. kept)
-      (λ a j r x s e d p. moved g i w r j x h (link_inside a j x s e) (λ z. untrue (sym (free a) ∙ ap (guards g) d ∙ eq-eqb r g z.0)) p)
-      (λ a j f x b c e d p. moved g i w f j x h (leaf_inside a j x b c e) (λ z. untrue (sym (free a) ∙ ap (guards g) d ∙ eq-eqb f g z.0)) (p d))
-      sound.apart) sound.shut
+  sound_store g i w h free = sound_by (framed_alike F m _ v v sound.framed (has_stored m g i w) (λ k. as_is) (λ a j. kept)
+      (λ a j r x s e d p. moved g i w r j x h (inside a j (λ z. cc)) (λ z. cc (free a, eq-eqb r g z.0)) p)
+      (λ a j f x b c e d p. moved g i w f j x h (inside a j (λ z. cc)) (λ z. cc (free a, eq-eqb f g z.0)) (p d))
+      sound.framed.apart) sound.shut
 
   drop_less : (g i k l : ℕ) → Less ((v_drop g i v).pl k l) (v.pl k l)
   unfolding v_drop
@@ -195,33 +149,21 @@ module _ (F : Format) (m : Memory) (v : View) (sound : Sound F m v) where
 
   pub sound_directory_store : (g i w : ℕ) → i < 1024 → Sound F (stored m g i w) (v_drop g i v)
   unfolding v_drop
-  sound_directory_store g i w h = flagged (framed_alike F m _ v (v_drop g i v) (framed sound) (has_stored m g i w) (λ k. as_is) (drop_less g i)
-      (λ a j r x s e d p. moved g i w r j x h (link_inside a j x s (less_link (drop_less g i a j) x s e)) (drop_other g i a j r (ap (copies g) d) (λ z. clash cc)) p)
-      (λ a j f x b c e d p. let l = less_leaf (drop_less g i a j) x b c e in moved g i w f j x h (leaf_inside a j x b l.0 l.1) (drop_other g i a j f (ap (copies g) d) (λ z. clash cc)) (p d))
-      sound.apart) (λ a j f k e. sound.shut a j f k (less_opens (drop_less g i a j) j (v.sh a) f e))
+  sound_directory_store g i w h = sound_by (framed_alike F m _ v (v_drop g i v) sound.framed (has_stored m g i w) (λ k. as_is) (drop_less g i)
+      (λ a j r x s e d p. moved g i w r j x h (inside a j (λ z. cc (less_link (drop_less g i a j) x s e))) (drop_other g i a j r (ap (copies g) d) (λ z. cc)) p)
+      (λ a j f x b c e d p. let l = less_leaf (drop_less g i a j) x b c e in moved g i w f j x h (inside a j (λ z. cc (l.1))) (drop_other g i a j f (ap (copies g) d) (λ z. cc)) (p d))
+      sound.framed.apart) (λ a j f k e. sound.shut a j f k (less_opens (drop_less g i a j) j (v.sh a) f e))
 
   -- UNSYNCHRONISED TABLES
 
   module _ (k g : ℕ) (y : SyncState) (at : v.sh k ≡ Table g y) (none : (n : ℕ) → is_directory_of g (v.sh n) ≡ false) where
     pub unguarded_by_sync : (n : ℕ) → guards g ((v_sync k Unsynchronised v).sh n) ≡ false
     unfolding v_sync
-    unguarded_by_sync n = by_eq n k (λ b. guards g (cond b (with_sync Unsynchronised (v.sh n)) (v.sh n)) ≡ false)
-        (λ e. ap (λ i. guards g (with_sync Unsynchronised (v.sh i))) e ∙ ap (λ x. guards g (with_sync Unsynchronised x)) at)
-        (λ e. other e (v.sh n) refl)
-      where
-        only : (f : ℕ) (z : SyncState) → v.sh n ≡ Table f z → f ≡ g → n ≡ k
-        only f z p q = sound.unique n k (thing.Table g) (ap (is_table_of g) p ∙ eq-eqb f g q) (ap (is_table_of g) at ∙ table_here g y)
-
-        other : (n ≡ k → ⊥) → (x : Shadow) → v.sh n ≡ x → guards g x ≡ false
-        other e Nothing p = refl
-        other e (Directory f) p = sym (ap (is_directory_of g) p) ∙ none n
-        other e (Table f Protected) p = ne_eqb f g (λ q. e (only f Protected p q))
-        other e (Table f Unsynchronised) p = refl
-        other e (Split f) p = refl
+    unguarded_by_sync n = grind (arith, nat_tests, sound.framed.unique n k (thing.Table g), none n)
 
     pub sound_unsync : Sound F m (v_sync k Unsynchronised v)
     unfolding v_sync
-    sound_unsync = flagged (framed_alike F m m v _ (framed sound) (λ f. refl) alike (λ i j. kept) (λ i j r w s e d p. p)
+    sound_unsync = sound_by (framed_alike F m m v _ sound.framed (λ f. refl) alike (λ i j. kept) (λ i j r w s e d p. p)
         (λ i j f w a b e d p. p (protected (eqb i k) (v.sh i) f d))
         (λ i n f e d. not_both n f (table_of i f e) (alike_directory (alike_sym (alike n)) f d)))
         (λ i j f n e. fewer (eqb n k) (v.sh n) f (sound.shut i j f n (alike_opens (alike i) j f (v.pl i j) e)))
@@ -230,27 +172,18 @@ module _ (F : Format) (m : Memory) (v : View) (sound : Sound F m v) where
         alike n = sync_alike (eqb n k) Unsynchronised (v.sh n)
 
         protected : (b : Bool) (x : Shadow) (f : ℕ) → cond b (with_sync Unsynchronised x) x ≡ Table f Protected → x ≡ Table f Protected
-        protected false x f e = e
-        protected true Nothing f e = e
-        protected true (Directory r) f e = e
-        protected true (Table h z) f e = clash cc
-        protected true (Split h) f e = e
+        protected b x f e = grind (arith, nat_tests)
 
         fewer : (b : Bool) (x : Shadow) (f : ℕ) → guards f x ≡ false → guards f (cond b (with_sync Unsynchronised x) x) ≡ false
-        fewer false x f e = e
-        fewer true Nothing f e = e
-        fewer true (Directory r) f e = e
-        fewer true (Table h z) f e = refl
-        fewer true (Split h) f e = e
+        fewer b x f e = grind (arith, nat_tests)
 
         -- an unsynchronised table was one, or is the table of g
         table_of : (i f : ℕ) → cond (eqb i k) (with_sync Unsynchronised (v.sh i)) (v.sh i) ≡ Table f Unsynchronised → (v.sh i ≡ Table f Unsynchronised) ⊎ (f ≡ g)
-        table_of i f = by_eq i k (λ b. cond b (with_sync Unsynchronised (v.sh i)) (v.sh i) ≡ Table f Unsynchronised → (v.sh i ≡ Table f Unsynchronised) ⊎ (f ≡ g))
-            (λ q e. inr (let z : Table g Unsynchronised ≡ Table f Unsynchronised = sym (ap (λ n. with_sync Unsynchronised (v.sh n)) q ∙ ap (with_sync Unsynchronised) at) ∙ e in cc)) (λ q e. inl e)
+        table_of i f = grind (arith, nat_tests)
 
         not_both : (n f : ℕ) → {i : ℕ} → (v.sh i ≡ Table f Unsynchronised) ⊎ (f ≡ g) → v.sh n ≡ Directory f → ⊥
-        not_both n f (inl e) d = sound.apart _ n f e d
-        not_both n f (inr e) d = untrue (sym (none n) ∙ ap (is_directory_of g) d ∙ eq-eqb f g e)
+        not_both n f (inl e) d = sound.framed.apart _ n f e d
+        not_both n f (inr e) d = cc (none n, eq-eqb f g e)
 
 -- NEW PLACES
 
@@ -272,22 +205,23 @@ module _ (F : Format) (m : Memory) where
   module _ (v : View) (sound : Sound F m v) where
     fits_at : (i j : ℕ) → (p : Place) → v.pl i j ≡ p → Fits v i j p
     fits_at i j Empty e = tt
-    fits_at i j (Link w s) e = sound.links i j w s e
-    fits_at i j (Leaf w a b) e = sound.leaves i j w a b e
-    fits_at i j (Piece b) e = sound.pieces i j b e
+    fits_at i j (Link w s) e = sound.framed.links i j w s e
+    fits_at i j (Leaf w a b) e = sound.framed.leaves i j w a b e
+    fits_at i j (Piece b) e = sound.framed.pieces i j b e
 
     sound_put : (i j : ℕ) (p : Place) → (1024 ≤ j → p ≡ Empty) → Fits v i j p → ((g k : ℕ) → opens j (v.sh i) g p ≡ true → guards g (v.sh k) ≡ false) → Sound F m (v_put i j p v)
     unfolding v_put
     sound_put i j p inside fits free = record {
-      unique = sound.unique;
-      backed = sound.backed;
-      within = λ a b h. by_eq₂ a i b j (λ x. cond x p (v.pl a b) ≡ Empty) (λ q r. inside (subst (λ x. 1024 ≤ x) r h)) (λ q. sound.within a b h);
-      links = λ a b w s e. subst (Fits _ a b) e (all a b);
-      leaves = λ a b w f c e. subst (Fits _ a b) e (all a b);
-      pieces = λ a b c e. subst (Fits _ a b) e (all a b);
-      shut = λ a b g k. by_eq₂ a i b j (λ x. opens b (v.sh a) g (cond x p (v.pl a b)) ≡ true → guards g (v.sh k) ≡ false)
-          (λ q r e. free g k (subst (λ y. opens y (v.sh i) g p ≡ true) r (subst (λ x. opens b (v.sh x) g p ≡ true) q e))) (λ q e. sound.shut a b g k e);
-      apart = sound.apart;
+      framed = record {
+        unique = sound.framed.unique;
+        backed = sound.framed.backed;
+        within = λ a b h. grind (arith, nat_tests, inside, sound.framed.within a b);
+        links = λ a b w s e. subst (Fits _ a b) e (all a b);
+        leaves = λ a b w f c e. subst (Fits _ a b) e (all a b);
+        pieces = λ a b c e. subst (Fits _ a b) e (all a b);
+        apart = sound.framed.apart;
+      };
+      shut = λ a b g k e. grind (arith, nat_tests, free g k, sound.shut a b g k);
     }
       where
         all : (a b : ℕ) → Fits (v_put i j p v) a b (cond (eqb a i && eqb b j) p (v.pl a b))
@@ -297,7 +231,7 @@ module _ (F : Format) (m : Memory) where
 
     pub sound_link : (i r d w s : ℕ) → v.sh i ≡ Directory r → d < 1024 → Leads F w → shadows (v.sh s) (named F w) ≡ true → Up F w (word_at m r d) → Sound F m (v_put i d (Link w s) v)
     sound_link i r d w s is h leads names up =
-        sound_put i d (Link w s) (λ k. absurd (omega arith)) (record { root = r; is = is; leads = leads; names = names; up = up }) (λ g k e. untrue e)
+        sound_put i d (Link w s) (λ k. absurd (omega arith)) (record { root = r; is = is; leads = leads; names = names; up = up }) (λ g k e. cc)
 
     pub sound_leaf : (i f : ℕ) (y : SyncState) (j w a : ℕ) (b : Bool) → v.sh i ≡ Table f y → j < 1024 → Pages F w a → has_words (m a) ≡ true
         → (y ≡ Protected → Up F w (word_at m f j)) → (b ≡ true → (k : ℕ) → guards a (v.sh k) ≡ false) → Sound F m (v_put i j (Leaf w a b) v)
@@ -311,7 +245,7 @@ module _ (F : Format) (m : Memory) where
         (λ g k e. let z = and_parts b (eqb (f + j) g) (rw is at e) in subst (λ x. guards x (v.sh k) ≡ false) (eqb-true (f + j) g z.1) (free z.0 k))
 
     pub sound_empty : (i j : ℕ) → Sound F m (v_put i j Empty v)
-    sound_empty i j = sound_put i j Empty (λ h. refl) tt (λ g k e. untrue e)
+    sound_empty i j = sound_put i j Empty (λ h. refl) tt (λ g k e. cc)
 
 pub sync_put : (v : View) (k : ℕ) (y : SyncState) (i j : ℕ) (p : Place) → v_sync k y (v_put i j p v) ≡ v_put i j p (v_sync k y v)
 unfolding v_sync v_put
@@ -331,18 +265,14 @@ pub checked_alike : (m : Memory) (i f : ℕ) (y : SyncState) (v : View) → v.sh
 checked_alike m i f y v at k = by_eq k i (λ b. Alike (cond b (Table f Protected) (v.sh k)) (v.sh k)) (λ q. subst (Alike (Table f Protected)) (sym (ap v.sh q ∙ at)) state) (λ q. as_is)
 
 check_word : (w : ℕ) (p : Place) (x a : ℕ) (b : Bool) → check_place w p ≡ Leaf x a b → x ≡ w
-check_word w Empty x a b e = clash cc
-check_word w (Link v s) x a b e = clash cc
-check_word w (Leaf v f c) x a b e =
-    by_eq v w (λ t. cond t (Leaf v f c) Empty ≡ Leaf x a b → x ≡ w) (λ p q. let z : v ≡ x = cc in sym z ∙ p) (λ p q. clash cc) e
-check_word w (Piece c) x a b e = clash cc
+check_word w p x a b e = grind (arith, nat_tests)
 
 module _ (F : Format) (m : Memory) (v : View) (sound : Sound F m v) where
   pub sound_check : (i f : ℕ) (y : SyncState) → v.sh i ≡ Table f y → Sound F m (v_check m i f v)
   unfolding v_check
   sound_check i f y at = guard_almost F m u f
-      (framed_alike F m m v u (framed sound) (λ g. refl) alike less (λ a j r w s e d p. p) leaf_up
-      (λ a k g e d. sound.apart a k g (unsync a g e) (alike_directory (alike_sym (alike k)) g d)))
+      (framed_alike F m m v u sound.framed (λ g. refl) alike less (λ a j r w s e d p. p) leaf_up
+      (λ a k g e d. sound.framed.apart a k g (unsync a g e) (alike_directory (alike_sym (alike k)) g d)))
       (λ a j g k q e. more_guards g k q (sound.shut a j g k (less_opens (less a j) j (v.sh a) g (alike_opens (alike a) j g (u.pl a j) e))))
     where
       u : View
@@ -361,19 +291,16 @@ module _ (F : Format) (m : Memory) (v : View) (sound : Sound F m v) where
           (λ q e d p. let z : f ≡ g = cc in subst (λ x. Up F w (word_at m x j)) z (subst (λ x. Up F w x) (check_word (word_at m f j) (v.pl k j) w a b e) same)) (λ q e d p. p d)
 
       unsync : (k g : ℕ) → cond (eqb k i) (Table f Protected) (v.sh k) ≡ Table g Unsynchronised → v.sh k ≡ Table g Unsynchronised
-      unsync k g = cond_other (eqb k i) (λ e. clash cc)
+      unsync k g e = grind (arith, nat_tests)
 
       more_guards : (g k : ℕ) → (g ≡ f → ⊥) → guards g (v.sh k) ≡ false → guards g (cond (eqb k i) (Table f Protected) (v.sh k)) ≡ false
-      more_guards g k q e = elim (eqb k i) as (λ b. guards g (cond b (Table f Protected) (v.sh k)) ≡ false) [ true ↦ ne_eqb f g (λ z. q (sym z)) | false ↦ e ]
+      more_guards g k q e = grind (arith, nat_tests)
 
 -- EVICTING AND FILLING
 
 -- no link to slot i is left
 unlinked : (i w s : ℕ) (p : Place) → unlink_place i p ≡ Link w s → s ≡ i → ⊥
-unlinked i w s Empty e q = clash cc
-unlinked i w s (Link x t) e q = by_eq t i (λ b. cond b Empty (Link x t) ≡ Link w s → ⊥) (λ z d. clash cc) (λ z d. let y : t ≡ s = cc in z (y ∙ q)) e
-unlinked i w s (Leaf x a b) e q = clash cc
-unlinked i w s (Piece b) e q = clash cc
+unlinked i w s p e q = grind (arith, nat_tests)
 
 module _ (F : Format) (m : Memory) (v : View) (sound : Sound F m v) where
   -- slot i is made new with all its places empty, and no link names it
@@ -386,54 +313,40 @@ module _ (F : Format) (m : Memory) (v : View) (sound : Sound F m v) where
   framed_anew u i elsewhere less stands unlinks unique backed apart = record {
     unique = unique;
     backed = backed;
-    within = λ k j h. less_empty (less k j) (sound.within k j h);
+    within = λ k j h. less_empty (less k j) (sound.framed.within k j h);
     links = λ k d w s e.
-        let x = sound.links k d w s (less_link (less k d) w s e) in
-        record { root = x.root; is = elsewhere k (stands k d (λ z. clash cc)) ∙ x.is; leads = x.leads; names = rw (elsewhere s (unlinks k d w s e x)) x.names; up = x.up };
+        let x = sound.framed.links k d w s (less_link (less k d) w s e) in
+        record { root = x.root; is = elsewhere k (stands k d (λ z. cc)) ∙ x.is; leads = x.leads; names = rw (elsewhere s (unlinks k d w s e x)) x.names; up = x.up };
     leaves = λ k j w a b e.
         let l = less_leaf (less k j) w a b e in
-        let x = sound.leaves k j w a l.0 l.1 in
-        record { frame = x.frame; state = x.state; is = elsewhere k (stands k j (λ z. clash cc)) ∙ x.is; pages = x.pages; target = x.target; up = x.up };
+        let x = sound.framed.leaves k j w a l.0 l.1 in
+        record { frame = x.frame; state = x.state; is = elsewhere k (stands k j (λ z. cc)) ∙ x.is; pages = x.pages; target = x.target; up = x.up };
     pieces = λ k j b e.
         let l = less_piece (less k j) b e in
-        let x = sound.pieces k j l.0 l.1 in
-        record { first = x.first; is = elsewhere k (stands k j (λ z. clash cc)) ∙ x.is; target = x.target };
+        let x = sound.framed.pieces k j l.0 l.1 in
+        record { first = x.first; is = elsewhere k (stands k j (λ z. cc)) ∙ x.is; target = x.target };
     apart = apart;
   }
 
   -- where slot i is made new and the other places only lost something, the flags that are left were there
   opens_anew : (i : ℕ) (x : Shadow) (p : ℕ → ℕ → Place) → ((k j : ℕ) → Less (p k j) (v.pl k j)) → (k j g l : ℕ)
       → opens j (cond (eqb k i) x (v.sh k)) g (cond (eqb k i) Empty (p k j)) ≡ true → guards g x ≡ false → guards g (cond (eqb l i) x (v.sh l)) ≡ false
-  opens_anew i x p less k j g l e free = elim (eqb l i) as (λ b. guards g (cond b x (v.sh l)) ≡ false) [ true ↦ free | false ↦ sound.shut k j g l (was (eqb k i) e) ]
-    where
-      was : (b : Bool) → opens j (cond b x (v.sh k)) g (cond b Empty (p k j)) ≡ true → opens j (v.sh k) g (v.pl k j) ≡ true
-      was true d = untrue d
-      was false d = less_opens (less k j) j (v.sh k) g d
+  opens_anew i x p less k j g l e free = grind (arith, nat_tests, sound.shut k j g l, less_opens (less k j) j (v.sh k) g)
 
   pub sound_evict : (i : ℕ) → Sound F m (v_evict i v)
   unfolding v_evict
-  sound_evict i = flagged (framed_anew (v_evict i v) i
+  sound_evict i = sound_by (framed_anew (v_evict i v) i
       (λ k q. ap (λ b. cond b Nothing (v.sh k)) (ne_eqb k i q))
       (λ k j. less_cond (eqb k i) (unlink_less i (v.sh k) (v.pl k j)))
       (λ k j stands q. stands (ap (λ b. cond b Empty (unlink_at i (v.sh k) (v.pl k j))) (eq-eqb k i q)))
       unlinks
-      (λ a b x p q. sound.unique a b x (was a x p) (was b x q))
-      (λ k. elim (eqb k i) as (λ b. Backed m (cond b Nothing (v.sh k))) [ true ↦ tt | false ↦ sound.backed k ])
-      (λ a k f e d. sound.apart a k f (table a f e) (directory k f d)))
+      (λ a b x p q. sound.framed.unique a b x (emptied_shadows (eqb a i) (v.sh a) x p) (emptied_shadows (eqb b i) (v.sh b) x q))
+      (λ k. elim (eqb k i) as (λ b. Backed m (cond b Nothing (v.sh k))) [ true ↦ tt | false ↦ sound.framed.backed k ])
+      (λ a k f e d. sound.framed.apart a k f (grind (arith, nat_tests)) (grind (arith, nat_tests))))
       (λ k j g l e. opens_anew i Nothing (λ a b. unlink_at i (v.sh a) (v.pl a b)) (λ a b. unlink_less i (v.sh a) (v.pl a b)) k j g l e refl)
     where
       unlinks : (k d w s : ℕ) → cond (eqb k i) Empty (unlink_at i (v.sh k) (v.pl k d)) ≡ Link w s → Linked F m v k d w s → s ≡ i → ⊥
-      unlinks k d w s e x = elim (eqb k i) as (λ b. cond b Empty (unlink_at i (v.sh k) (v.pl k d)) ≡ Link w s → s ≡ i → ⊥)
-          [ true ↦ (λ z q. clash cc) | false ↦ (λ z q. unlinked i w s (v.pl k d) (sym (ap (λ y. unlink_at i y (v.pl k d)) x.is) ∙ z) q) ] e
-
-      was : (k : ℕ) (x : Thing) → shadows (cond (eqb k i) Nothing (v.sh k)) x ≡ true → shadows (v.sh k) x ≡ true
-      was k x = elim (eqb k i) as (λ b. shadows (cond b Nothing (v.sh k)) x ≡ true → shadows (v.sh k) x ≡ true) [ true ↦ (λ e. untrue (sym (nothing_shadows x) ∙ e)) | false ↦ (λ e. e) ]
-
-      table : (k f : ℕ) → cond (eqb k i) Nothing (v.sh k) ≡ Table f Unsynchronised → v.sh k ≡ Table f Unsynchronised
-      table k f = cond_other (eqb k i) (λ e. clash cc)
-
-      directory : (k f : ℕ) → cond (eqb k i) Nothing (v.sh k) ≡ Directory f → v.sh k ≡ Directory f
-      directory k f = cond_other (eqb k i) (λ e. clash cc)
+      unlinks k d w s e x q = grind (arith, nat_tests, x.is, unlinked i w s (v.pl k d))
 
   module _ (i : ℕ) (bare : v.sh i ≡ Nothing) where
     -- a slot filled with thing x, which no slot shadows
@@ -443,22 +356,13 @@ module _ (F : Format) (m : Memory) (v : View) (sound : Sound F m v) where
         (λ k q. ap (λ b. cond b (shadow_of x) (v.sh k)) (ne_eqb k i q))
         (λ k j. less_cond (eqb k i) kept)
         (λ k j stands q. stands (ap (λ b. cond b Empty (v.pl k j)) (eq-eqb k i q)))
-        (λ k d w s e l q. untrue (sym (nothing_shadows (named F w)) ∙ ap (λ y. shadows y (named F w)) (sym (ap v.sh q ∙ bare)) ∙ l.names))
+        (λ k d w s e l q. cc (nothing_shadows (named F w), l.names))
         unique
-        (λ k. elim (eqb k i) as (λ b. Backed m (cond b (shadow_of x) (v.sh k))) [ true ↦ backs | false ↦ sound.backed k ])
-        (λ a k f e. elim (eqb k i) as (λ b. cond b (shadow_of x) (v.sh k) ≡ Directory f → ⊥) [ true ↦ lags a f (table a f e) | false ↦ sound.apart a k f (table a f e) ])
+        (λ k. elim (eqb k i) as (λ b. Backed m (cond b (shadow_of x) (v.sh k))) [ true ↦ backs | false ↦ sound.framed.backed k ])
+        (λ a k f e d. grind (arith, nat_tests, lags a f, sound.framed.apart a k f, new_protected x f))
       where
-        -- what shadows x is slot i
-        only : (k : ℕ) (y : Thing) → shadows (shadow_of x) y ≡ true → shadows (v.sh k) y ≡ true → ⊥
-        only k y p q = untrue (sym (new k) ∙ ap (shadows (v.sh k)) (new_only x y p) ∙ q)
-
         unique : (a b : ℕ) (y : Thing) → shadows (cond (eqb a i) (shadow_of x) (v.sh a)) y ≡ true → shadows (cond (eqb b i) (shadow_of x) (v.sh b)) y ≡ true → a ≡ b
-        unique a b y = by_eq a i (λ t. shadows (cond t (shadow_of x) (v.sh a)) y ≡ true → shadows (cond (eqb b i) (shadow_of x) (v.sh b)) y ≡ true → a ≡ b)
-            (λ q p. by_eq b i (λ t. shadows (cond t (shadow_of x) (v.sh b)) y ≡ true → a ≡ b) (λ r e. q ∙ sym r) (λ r e. absurd (only b y p e)))
-            (λ q p. by_eq b i (λ t. shadows (cond t (shadow_of x) (v.sh b)) y ≡ true → a ≡ b) (λ r e. absurd (only a y e p)) (λ r e. sound.unique a b y p e))
-
-        table : (k f : ℕ) → cond (eqb k i) (shadow_of x) (v.sh k) ≡ Table f Unsynchronised → v.sh k ≡ Table f Unsynchronised
-        table k f = cond_other (eqb k i) (new_protected x f)
+        unique a b y p q = grind (arith, nat_tests, new a, new b, new_only x y, sound.framed.unique a b y)
 
     fill_shut : (x : Thing) (k j g l : ℕ) → opens j ((v_fill i x v).sh k) g ((v_fill i x v).pl k j) ≡ true → guards g (shadow_of x) ≡ false → guards g ((v_fill i x v).sh l) ≡ false
     unfolding v_fill
@@ -471,8 +375,8 @@ module _ (F : Format) (m : Memory) (v : View) (sound : Sound F m v) where
 
     pub sound_fill_table : (f : ℕ) → has_words (m f) ≡ true → ((k : ℕ) → is_table_of f (v.sh k) ≡ false) → Sound F m (v_guard f (v_fill i (thing.Table f) v))
     sound_fill_table f has new = guard_almost F m _ f
-        (framed_fill (thing.Table f) has new (λ k g e d. clash cc))
+        (framed_fill (thing.Table f) has new (λ k g e d. cc))
         (λ k j g l q e. fill_shut (thing.Table f) k j g l e (ne_eqb f g (λ z. q (sym z))))
 
     pub sound_fill_split : (f : ℕ) → ((k : ℕ) → is_split_of f (v.sh k) ≡ false) → Sound F m (v_fill i (thing.Split f) v)
-    sound_fill_split f new = flagged (framed_fill (thing.Split f) tt new (λ k g e d. clash cc)) (λ k j g l e. fill_shut (thing.Split f) k j g l e refl)
+    sound_fill_split f new = sound_by (framed_fill (thing.Split f) tt new (λ k g e d. cc)) (λ k j g l e. fill_shut (thing.Split f) k j g l e refl)

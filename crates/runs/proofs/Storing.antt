@@ -14,12 +14,12 @@ use Rattle.slot.specs.declared.slots.Thing.TheVariants as thing
 use Rattle.runs.specs.Laws.{word_at}
 use Rattle.runs.specs.Terms.{hidden, no_exit, trace}
 use Rattle.runs.specs.Unit.{Traced, store_traced, unsync_found}
-use Rattle.runs.proofs.Basics.{by_eq, clash, untrue}
+use Rattle.runs.proofs.Basics.{by_eq}
 use Rattle.runs.proofs.Fewer.{fewer_drop}
 use Rattle.runs.proofs.Good.{Fit, refit}
 use Rattle.runs.proofs.Linking.{Olds, Trip, olds_fewer, put_either, put_here, put_other, put_sh}
-use Rattle.runs.proofs.Places.{directory_no, find_none, find_some, protected_no, protected_yes, roomy_drop, roomy_flag_off, roomy_put, roomy_sync, view_drop, view_flag_off, view_put, view_sync}
-use Rattle.runs.proofs.Shadows.{Alike, alike_directory, alike_split, alike_sym, alike_table, protected_table, same_table, sync_alike, table_here, unguarded}
+use Rattle.runs.proofs.Places.{find_none, find_some, roomy_drop, roomy_flag_off, roomy_put, roomy_sync, slot_none, slot_some, view_drop, view_flag_off, view_put, view_sync}
+use Rattle.runs.proofs.Shadows.{Alike, alike_directory, alike_split, alike_sym, alike_table, protected_table, sync_alike, table_here, unguarded}
 use Rattle.runs.proofs.Sound.{Pages, Sound, Up, guards, same}
 use Rattle.runs.proofs.Sounds.{flag_off_put, leaf_now, link_now, sound_directory_store, sound_leaf, sound_piece, sound_store, sound_unsync, sync_put, unguarded_by_sync}
 use Rattle.runs.proofs.Views.{View, v_drop, v_flag_off, v_put, v_sync, view}
@@ -57,15 +57,16 @@ SeenOr F m root v n = (i d w s f j x c : ℕ) → Trip n root i d w s f j x c �
 
 module _ (F : Format) (m : Memory) (root : ℕ) (v : View) (sound : Sound F m v) (s j f : ℕ) where
   new_no_link : {p : Place} {w k : ℕ} → New F m v s j f p → p ≡ Link w k → ⊥
-  new_no_link (new_leaf e q) z = clash cc
-  new_no_link (new_piece e q) z = clash cc
+  new_no_link (new_leaf e q) z = cc
+  new_no_link (new_piece e q) z = cc
 
   -- the new leaf is the present word of the table
   new_up : {p : Place} → New F m v s j f p → (g x c : ℕ) (y : SyncState) (b : Bool) → v.sh s ≡ Table g y → p ≡ Leaf x c b → Up F x (word_at m g j)
-  new_up (new_leaf {g = h} {y = z} e q) g x c y b at is =
+  new_up (new_leaf {g = h} e q) g x c y b at is =
       let u : word_at m h j ≡ x = cc in
-      subst (λ (n : ℕ). Up F n (word_at m g j)) u (subst (λ (n : ℕ). Up F (word_at m n j) (word_at m g j)) (sym (same_table h g z y (v.sh s) e at)) same)
-  new_up (new_piece e q) g x c y b at is = clash cc
+      let same_frame : h ≡ g = cc (e, at) in
+      subst (λ (n : ℕ). Up F n (word_at m g j)) u (subst (λ (n : ℕ). Up F (word_at m n j) (word_at m g j)) (sym same_frame) same)
+  new_up (new_piece e q) g x c y b at is = cc
 
   pub put_seen : (p : Place) → New F m v s j f p → SeenOr F m root v (v_put s j p v)
   unfolding v_put
@@ -142,11 +143,11 @@ module _ (F : Format) (m : Memory) (root : ℕ) (t : SlotTable) (q : List ℕ) (
     fit = refit ok k (put_place s j p t) (roomy_put s j p t ok.roomy) refl (subst (Sound F k) (sym put) snd);
     shadow = put_dirs;
     seen = subst (SeenOr F m root (view t)) (sym put) (put_seen F m root (view t) ok.sound s j f p new);
-    exits = λ z. clash (sym z);
+    exits = λ z. omega arith;
   }
 
   pub kept_load : flag_of p ≡ false → Kept F m root t q s j p m (put_place s j p t) hidden
-  kept_load e = kept_plain m (sound_new F m (view t) ok.sound s j f inside has p new (λ z. untrue (sym e ∙ z)))
+  kept_load e = kept_plain m (sound_new F m (view t) ok.sound s j f inside has p new (λ z. cc))
 
   module _ (i w : ℕ) (small : i < 1024) where
     -- a directory's frame
@@ -175,7 +176,7 @@ module _ (F : Format) (m : Memory) (root : ℕ) (t : SlotTable) (q : List ℕ) (
     }
       where
         snd : Sound F m off
-        snd = sound_new F m (view t) ok.sound s j f inside has (flag_off p) (new_off new) (λ z. untrue (sym (flag_off_off new) ∙ z))
+        snd = sound_new F m (view t) ok.sound s j f inside has (flag_off p) (new_off new) (λ z. cc (flag_off_off new))
 
         sh : (k : ℕ) → shadow_at k (drop_entry f i (flag_off_at s j (put_place s j p t))) ≡ shadow_at k t
         sh k = ap (λ v. v.sh k) dropped_all ∙ drop_sh k
@@ -234,15 +235,14 @@ module _ (F : Format) (m : Memory) (root : ℕ) (t : SlotTable) (q : List ℕ) (
       found_table : is_protected f (put_place s j p t) ≡ true → (x : Option ℕ) → find_slot (thing.Table f) (put_place s j p t) ≡ x
           → Kept F m root t q s j p (stored m f i w) (unsync_found (put_place s j p t) x) trace × Stands t s j p (unsync_found (put_place s j p t) x)
       found_table e None z =
-          let k = protected_yes f (put_place s j p t) e in
+          let k = slot_some (protects f) (put_place s j p t) e in
           let at = protected_table f (shadow_at k.0 (put_place s j p t)) k.1 in
-          let u : true ≡ false = sym (ap (is_table_of f) at ∙ table_here f Protected) ∙ find_none (thing.Table f) (put_place s j p t) z k.0 in
-          clash cc
+          absurd (cc (ap (is_table_of f) at ∙ table_here f Protected, find_none (thing.Table f) (put_place s j p t) z k.0))
       found_table e (Some n) z =
-          let k = protected_yes f (put_place s j p t) e in
+          let k = slot_some (protects f) (put_place s j p t) e in
           let at = sym (put_shadow k.0) ∙ protected_table f (shadow_at k.0 (put_place s j p t)) k.1 in
           let yes_n : is_table_of f (shadow_at n t) ≡ true = ap (is_table_of f) (sym (put_shadow n)) ∙ (find_some (thing.Table f) (put_place s j p t) n (roomy_put s j p t ok.roomy) z).0 in
-          let same_slot : k.0 ≡ n = ok.sound.unique k.0 n (thing.Table f) (ap (is_table_of f) at ∙ table_here f Protected) yes_n in
+          let same_slot : k.0 ≡ n = ok.sound.framed.unique k.0 n (thing.Table f) (ap (is_table_of f) at ∙ table_here f Protected) yes_n in
           let there : shadow_at n t ≡ Table f Protected = ap (λ (x : ℕ). shadow_at x t) (sym same_slot) ∙ at in
           (kept_table n there, stands_table n there)
 
@@ -267,12 +267,12 @@ module _ (F : Format) (m : Memory) (root : ℕ) (t : SlotTable) (q : List ℕ) (
     kept_store = go (is_directory f (put_place s j p t)) (is_protected f (put_place s j p t)) refl refl
       where
         none : is_directory f (put_place s j p t) ≡ false → (n : ℕ) → is_directory_of f (shadow_at n t) ≡ false
-        none e n = ap (is_directory_of f) (sym (put_shadow n)) ∙ directory_no f (put_place s j p t) e n
+        none e n = ap (is_directory_of f) (sym (put_shadow n)) ∙ slot_none (is_directory_of f) (put_place s j p t) refl e n
 
         go : (b c : Bool) → is_directory f (put_place s j p t) ≡ b → is_protected f (put_place s j p t) ≡ c → StoreKept b (by_tests b c)
-        go true c e z = (kept_directory, λ u. clash cc)
+        go true c e z = (kept_directory, λ u. cc)
         go false true e z =
             let k = found_table (none e) z (find_slot (thing.Table f) (put_place s j p t)) refl in
             (k.0, λ u. k.1)
         go false false e z =
-            (kept_other (none e) (λ n. ap (protects f) (sym (put_shadow n)) ∙ protected_no f (put_place s j p t) z n), λ u. stands_put)
+            (kept_other (none e) (λ n. ap (protects f) (sym (put_shadow n)) ∙ slot_none (protects f) (put_place s j p t) refl z n), λ u. stands_put)

@@ -1,9 +1,10 @@
 -- Finding or taking the slot of a thing keeps slots fit.
+use Rattle.std.proofs.lemmas.Bool.Decides.{nat_tests}
 use Rattle.std.proofs.Common.{◌≡◌, ℕ, ◌<◌, Bool, true, false, cond, not, ◌&&◌, eqb, ltb, ◌⊎◌, List, Some, None, Option, sym, refl, ap, ◌∙◌, subst, inl, inr, arith}
-use Rattle.std.proofs.lemmas.Bool.{and_parts, eq-eqb, lt-ltb, ltb-true, not-true}
+use Rattle.std.proofs.lemmas.Bool.{eq-eqb, false_from_ne_true, lt-ltb, ltb-true}
 use Rattle.memory.specs.Memory.{Memory, has_words}
 use Rattle.paging.specs.Formats.{Format}
-use Rattle.policies.specs.Orders.{OrdersKept, Rule, first_permitted, times}
+use Rattle.policies.specs.Orders.{OrdersKept, Rule, first_permitted}
 use Rattle.policies.proofs.Naming.{names_permitted}
 use Rattle.shadow.specs.Slots.{evict, fill, find_slot, first_empty, guard, may_take, permitted, shadow_at}
 use Rattle.slot.specs.Slot.{is_directory_of, is_nothing, is_root, is_table_of, lags, shadow_of, shadows}
@@ -13,12 +14,12 @@ use Rattle.slot.specs.declared.slots.SyncState.TheVariants.{Unsynchronised}
 use Rattle.slot.specs.declared.slots.Thing.{Thing}
 use Rattle.slot.specs.declared.slots.Thing.TheVariants as thing
 use Rattle.runs.specs.Unit.{Taken, guard_for, obtain, obtained, ready_for, resync, resync_found, room, settle_in, take_slot, taken}
-use Rattle.runs.proofs.Basics.{by_eq, clash, not_yes, untrue}
+use Rattle.runs.proofs.Basics.{by_eq}
 use Rattle.runs.proofs.Fewer.{Fewer, fewer_evict, fewer_fill, fewer_guard, fewer_same, fewer_trans}
 use Rattle.runs.proofs.Good.{Fit, refit}
 use Rattle.runs.proofs.Places.{empty_none, empty_some, find_none, find_some, permitted_if, permitted_says, roomy_evict, roomy_fill, roomy_guard, view_evict, view_fill, view_guard}
-use Rattle.runs.proofs.Resyncs.{Turned, resynced, turned_same}
-use Rattle.runs.proofs.Shadows.{directory_here, is_directory_at, is_nothing_at, new_calm, new_directory, new_shadows, nothing_shadows, table_here}
+use Rattle.runs.proofs.Resyncs.{Turned, resynced, turned_directory, turned_same}
+use Rattle.runs.proofs.Shadows.{calm_no_table, directory_here, emptied_shadows, is_directory_at, is_nothing_at, new_calm, new_directory, new_shadows, table_here}
 use Rattle.runs.proofs.Sound.{Sound}
 use Rattle.runs.proofs.Sounds.{sound_evict, sound_fill_directory, sound_fill_split, sound_fill_table}
 use Rattle.runs.proofs.Views.{Roomy, v_evict, v_fill, v_guard, view}
@@ -30,16 +31,9 @@ HasFrame m (thing.Table f) = has_words (m f) ≡ true
 HasFrame m (thing.Split f) = Unit {0}
 
 module _ (F : Format) (R : Rule) (kept_order : OrdersKept R) (m : Memory) where
-  -- an order stays full
-  named_full : (t : SlotTable) (q : List ℕ) (x : ℕ) → ((i : ℕ) → i < t.count → 0 < times i q) → (i : ℕ) → i < t.count → 0 < times i (R.named q x)
-  named_full t q x f i l = subst (λ (n : ℕ). 0 < n) (sym (kept_order.named_rearranges q x i)) (f i l)
-
-  told_full : (t : SlotTable) (q : List ℕ) (x : ℕ) → ((i : ℕ) → i < t.count → 0 < times i q) → (i : ℕ) → i < t.count → 0 < times i (R.told q x)
-  told_full t q x f i l = subst (λ (n : ℕ). 0 < n) (sym (kept_order.told_rearranges q x i)) (f i l)
-
   pub told_fit : (t : SlotTable) (q : List ℕ) (x : ℕ) → Fit F m t q → Fit F m t (R.told q x)
   told_fit t q x fit =
-      record { roomy = fit.roomy; many = fit.many; few = fit.few; ordered = told_full t q x fit.ordered; sound = fit.sound }
+      record { roomy = fit.roomy; many = fit.many; few = fit.few; ordered = λ i l. rw (kept_order.told_rearranges q x i) (fit.ordered i l); sound = fit.sound }
 
   -- ROOM
 
@@ -73,34 +67,21 @@ module _ (F : Format) (R : Rule) (kept_order : OrdersKept R) (m : Memory) where
       roomy = roomy_evict i t fit.roomy;
       many = fit.many;
       few = fit.few;
-      ordered = named_full t q i fit.ordered;
+      ordered = λ k l. rw (kept_order.named_rearranges q i k) (fit.ordered k l);
       sound = subst (Sound F m) (sym (view_evict i t)) (sound_evict F m (view t) fit.sound i);
     };
     small = let l : i < t.count = ltb-true i t.count parts.0 in let u = fit.few in omega arith;
     vacant = evicted_sh i i t ∙ rw (eq-eqb i i refl);
     fewer = subst (Fewer (view t)) (sym (view_evict i t)) (fewer_evict i (view t));
-    were = λ k x z. back k x (subst (λ y. shadows y x ≡ true) (evicted_sh i k t) z);
+    were = λ k x z. emptied_shadows (eqb k i) (shadow_at k t) x (subst (λ y. shadows y x ≡ true) (evicted_sh i k t) z);
     keeps = λ root k z w. evicted_sh i k t ∙ stays root k z w;
   }
     where
       parts : (ltb i t.count ≡ true) × (not (is_nothing (shadow_at i t)) ≡ true) × (not (is_root (shadow_at i t) kept) ≡ true)
-      parts =
-          let z = and_parts (ltb i t.count && not (is_nothing (shadow_at i t))) (not (is_root (shadow_at i t) kept)) e in
-          let y = and_parts (ltb i t.count) (not (is_nothing (shadow_at i t))) z.0 in
-          (y.0, y.1, z.1)
-
-      back : (k : ℕ) (x : Thing) → shadows (cond (eqb k i) Nothing (shadow_at k t)) x ≡ true → shadows (shadow_at k t) x ≡ true
-      back k x = by_eq k i (λ b. shadows (cond b Nothing (shadow_at k t)) x ≡ true → shadows (shadow_at k t) x ≡ true)
-          (λ p z. untrue (sym (nothing_shadows x) ∙ z)) (λ n z. z)
+      parts = (grind (arith, nat_tests), grind (arith, nat_tests), grind (arith, nat_tests))
 
       stays : (root k : ℕ) → kept ≡ Some root → shadow_at k t ≡ Directory root → cond (eqb k i) Nothing (shadow_at k t) ≡ Directory root
-      stays root k z w = by_eq k i (λ b. cond b Nothing (shadow_at k t) ≡ Directory root)
-          (λ p.
-          let here : shadow_at i t ≡ Directory root = sym (ap (λ (n : ℕ). shadow_at n t) p) ∙ w in
-          let u : is_root (shadow_at i t) kept ≡ true = ap (is_root (shadow_at i t)) z ∙ ap (is_directory_of root) here ∙ directory_here root in
-          let c : true ≡ false = sym u ∙ not-true (is_root (shadow_at i t) kept) parts.2 in
-          clash cc)
-          (λ n. w)
+      stays root k z w = grind (arith, nat_tests)
 
   -- where all slots are filled, one may be taken
   abbrev pub Free : Option ℕ → SlotTable → Type 0
@@ -142,15 +123,13 @@ module _ (F : Format) (R : Rule) (kept_order : OrdersKept R) (m : Memory) where
     pub lag : NoLag x n
 
   readied : (x : Thing) (t : SlotTable) (q : List ℕ) → Fit F m t q → Readied x t q (ready_for m x t)
-  readied (thing.Table f) t q fit = record { fit = fit; turned = turned_same; lag = tt }
-  readied (thing.Split f) t q fit = record { fit = fit; turned = turned_same; lag = tt }
   readied (thing.Directory f) t q fit = go (find_slot (thing.Table f) t) refl
     where
       go : (s : Option ℕ) → find_slot (thing.Table f) t ≡ s → Readied (thing.Directory f) t q (resync_found m t s)
       go None e = record {
         fit = fit;
         turned = turned_same;
-        lag = λ k z. let u : true ≡ false = sym (ap (is_table_of f) z ∙ table_here f Unsynchronised) ∙ find_none (thing.Table f) t e k in clash cc;
+        lag = λ k z. cc (ap (is_table_of f) z ∙ table_here f Unsynchronised, find_none (thing.Table f) t e k);
       }
       go (Some i) e =
           let a = resynced F m t q i fit in
@@ -159,10 +138,10 @@ module _ (F : Format) (R : Rule) (kept_order : OrdersKept R) (m : Memory) where
             turned = a.turned;
             lag = λ k z.
                 let yes_k : is_table_of f (shadow_at k (resync m i t)) ≡ true = ap (is_table_of f) z ∙ table_here f Unsynchronised in
-                let same : k ≡ i = fit.sound.unique k i (thing.Table f) (sym (a.turned.things k (thing.Table f)) ∙ yes_k) (find_some (thing.Table f) t i fit.roomy e).0 in
-                let u : true ≡ false = sym (ap lags z) ∙ ap (λ (j : ℕ). lags (shadow_at j (resync m i t))) same ∙ a.calm in
-                clash cc;
+                let same : k ≡ i = fit.sound.framed.unique k i (thing.Table f) (sym (a.turned.things k (thing.Table f)) ∙ yes_k) (find_some (thing.Table f) t i fit.roomy e).0 in
+                calm_no_table a.calm (ap (λ (j : ℕ). shadow_at j (resync m i t)) (sym same) ∙ z);
           }
+  readied x t q fit = record { fit = fit; turned = turned_same; lag = tt }
 
   -- a filled slot, and the others
   fill_sh : (i k : ℕ) (x : Thing) (t : SlotTable) → Roomy t → i < 8 → shadow_at k (fill i x t) ≡ cond (eqb k i) (shadow_of x) (shadow_at k t)
@@ -231,7 +210,7 @@ module _ (F : Format) (R : Rule) (kept_order : OrdersKept R) (m : Memory) where
       vac = d.turned.vacant k.slot r.vacant
 
       none_now : (i : ℕ) → shadows (shadow_at i (ready_for m x k.table)) x ≡ false
-      none_now i = not_yes _ (λ e. let u : true ≡ false = sym (r.were i x (sym (d.turned.things i x) ∙ e)) ∙ none i in clash cc)
+      none_now i = false_from_ne_true _ (λ e. cc (r.were i x (sym (d.turned.things i x) ∙ e), none i))
 
       z : Filled k.slot x (ready_for m x k.table) (guard_for x (fill k.slot x (ready_for m x k.table)))
       z = filled k.slot x (ready_for m x k.table) k.order d.fit r.small vac has none_now d.lag
@@ -245,12 +224,10 @@ module _ (F : Format) (R : Rule) (kept_order : OrdersKept R) (m : Memory) where
       dirs : (i f : ℕ) → cond (eqb i k.slot) (shadow_of x) (shadow_at i (ready_for m x k.table)) ≡ Directory f → (shadow_at i t ≡ Directory f) ⊎ (x ≡ thing.Directory f)
       dirs i f = by_eq i k.slot (λ b. cond b (shadow_of x) (shadow_at i (ready_for m x k.table)) ≡ Directory f → (shadow_at i t ≡ Directory f) ⊎ (x ≡ thing.Directory f))
           (λ p e. inr (new_directory x f e))
-          (λ p e. inl (is_directory_at f (shadow_at i t) (r.were i (thing.Directory f) (sym (d.turned.things i (thing.Directory f)) ∙ ap (is_directory_of f) e ∙ directory_here f))))
+          (λ p e. inl (is_directory_at f (shadow_at i t) (r.were i (thing.Directory f) (ap (is_directory_of f) ((turned_directory d.turned i f).0 e) ∙ directory_here f))))
 
       keeps : (root i : ℕ) → shadow_at i k.table ≡ Directory root → cond (eqb i k.slot) (shadow_of x) (shadow_at i (ready_for m x k.table)) ≡ Directory root
-      keeps root i e = by_eq i k.slot (λ b. cond b (shadow_of x) (shadow_at i (ready_for m x k.table)) ≡ Directory root)
-          (λ p. let u : Nothing ≡ Directory root = sym r.vacant ∙ sym (ap (λ (j : ℕ). shadow_at j k.table) p) ∙ e in clash cc)
-          (λ p. is_directory_at root (shadow_at i (ready_for m x k.table)) (d.turned.things i (thing.Directory root) ∙ ap (is_directory_of root) e ∙ directory_here root))
+      keeps root i e = grind (arith, nat_tests, r.vacant, turned_directory d.turned i root)
 
   pub took : (kept : Option ℕ) (x : Thing) (t : SlotTable) (q : List ℕ) → Fit F m t q → NoneOf x t → HasFrame m x → (first_empty t ≡ None → Free kept t) → Got kept x t (take_slot R m kept x t q)
   unfolding take_slot
@@ -266,8 +243,8 @@ module _ (F : Format) (R : Rule) (kept_order : OrdersKept R) (m : Memory) where
         is = a.turned.things i x ∙ f.0;
         calm = a.calm;
         fewer = a.turned.fewer;
-        dirs = λ k g z. inl (is_directory_at g (shadow_at k t) (sym (a.turned.things k (thing.Directory g)) ∙ ap (is_directory_of g) z ∙ directory_here g));
-        keeps = λ root k z w. is_directory_at root (shadow_at k (resync m i t)) (a.turned.things k (thing.Directory root) ∙ ap (is_directory_of root) w ∙ directory_here root);
+        dirs = λ k g z. inl ((turned_directory a.turned k g).0 z);
+        keeps = λ root k z w. (turned_directory a.turned k root).1 w;
       }
 
   pub got : (kept : Option ℕ) (x : Thing) (t : SlotTable) (q : List ℕ) → Fit F m t q → HasFrame m x → (first_empty t ≡ None → Free kept t) → Got kept x t (obtain R m kept x t q)
@@ -305,5 +282,5 @@ module _ (F : Format) (R : Rule) (kept_order : OrdersKept R) (m : Memory) where
         1,
         l1,
         takes _ _ _ (lt-ltb 1 t.count l1) (empty_none t fit.roomy fit.few e 1 l1)
-            (not_yes _ (λ c. let u : ◌≡◌ {A = ℕ} 0 1 = fit.sound.unique 0 1 (thing.Directory root) d c in clash u)),
+            (false_from_ne_true _ (λ c. let u : ◌≡◌ {A = ℕ} 0 1 = fit.sound.framed.unique 0 1 (thing.Directory root) d c in cc)),
       )

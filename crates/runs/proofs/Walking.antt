@@ -1,13 +1,13 @@
 -- A walk over words that were only marked since they were copied goes as the copies say, and its marks settle its entries.
-use Rattle.std.proofs.Common.{◌≡◌, ℕ, ◌+◌, ◌<◌, Bool, true, false, cond, eqb, List, [], ◌∷◌, sym, refl, ap, ◌∙◌, arith}
-use Rattle.std.proofs.lemmas.Bool.{eq-eqb, eqb-true}
+use Rattle.std.proofs.lemmas.Bool.Decides.{nat_tests}
+use Rattle.std.proofs.Common.{◌≡◌, ℕ, ◌+◌, ◌<◌, Bool, true, false, cond, eqb, List, [], ◌∷◌, ◌++◌, sym, refl, ap, ◌∙◌, arith}
+use Rattle.std.proofs.lemmas.Bool.{eqb-true}
 use Rattle.memory.specs.Memory.{Contents, Memory, words, cause, has_words}
 use Rattle.paging.specs.Formats.{Format, LawsOfMarking}
 use Rattle.paging.specs.Terms.{because_absent, because_denied, because_malformed, directory_level, is_absent, is_page, is_table, table_level}
 use Rattle.walk.specs.Marking.{Write, due, mark_at, mark_of, put_all}
-use Rattle.walk.specs.Walk.{Asked, Failure, Seen, Spot, arrive, at_page, at_table, by_directory, by_table, directory_index, fails, faulted, in_directory, in_table, reached, seen, spot, table_index, walk_from}
-use Rattle.runs.specs.Laws.{below_directory, fault, guest_walk, root_read, table_read, to, with_marks, word_at, word_in, words_read}
-use Rattle.runs.proofs.Basics.{clash, untrue}
+use Rattle.walk.specs.Walk.{Asked, Failure, Outcome, Seen, Spot, arrive, at_page, at_table, directory_index, fails, faulted, in_directory, in_table, reached, seen, spot, table_index, walk_from}
+use Rattle.runs.specs.Laws.{guest_walk, to, with_marks, word_at, word_in, words_read}
 use Rattle.runs.proofs.Memories.{put_all_append, raises_mark, raises_refl, raises_trans, small_append, word_stored_same}
 use Rattle.runs.proofs.Moments.{SmallWrites}
 use Rattle.runs.proofs.Sound.{Leads, Pages, Raises, Up, more, named, same}
@@ -39,20 +39,13 @@ module _ (F : Format) (laws : LawsOfMarking F) where
   up_settled same l k e = e
   up_settled (more {v} m j u) l k e = laws.marks_last l m k j v (up_settled u l k e)
 
-  pub up_allows_one : {w v : ℕ} → Up F w v → (k p : ℕ) → F.allows (v ∷ []) k p ≡ F.allows (w ∷ []) k p
-  up_allows_one same k p = refl
-  up_allows_one (more {v} l j u) k p = laws.rights_kept [] [] v l j k p ∙ up_allows_one u k p
-
-  up_allows_upper : {w v : ℕ} → Up F w v → (y k p : ℕ) → F.allows (v ∷ y ∷ []) k p ≡ F.allows (w ∷ y ∷ []) k p
-  up_allows_upper same y k p = refl
-  up_allows_upper (more {v} l j u) y k p = laws.rights_kept [] (y ∷ []) v l j k p ∙ up_allows_upper u y k p
-
-  up_allows_lower : {x y : ℕ} → Up F x y → (w k p : ℕ) → F.allows (w ∷ y ∷ []) k p ≡ F.allows (w ∷ x ∷ []) k p
-  up_allows_lower same w k p = refl
-  up_allows_lower (more {v} l j u) w k p = laws.rights_kept (w ∷ []) [] v l j k p ∙ up_allows_lower u w k p
+  -- one of the words of a walk was marked
+  pub up_allows : {w v : ℕ} (xs ys : List ℕ) → Up F w v → (k p : ℕ) → F.allows (xs ++ v ∷ ys) k p ≡ F.allows (xs ++ w ∷ ys) k p
+  up_allows xs ys same k p = refl
+  up_allows xs ys (more {v} l j u) k p = laws.rights_kept xs ys v l j k p ∙ up_allows xs ys u k p
 
   pub up_allows_two : {w v x y : ℕ} → Up F w v → Up F x y → (k p : ℕ) → F.allows (v ∷ y ∷ []) k p ≡ F.allows (w ∷ x ∷ []) k p
-  up_allows_two {w} {v} {x} {y} u z k p = up_allows_upper u y k p ∙ up_allows_lower z w k p
+  up_allows_two {w} {v} {x} {y} u z k p = up_allows [] (y ∷ []) u k p ∙ up_allows (w ∷ []) [] z k p
 
   pub up_leads : {w v : ℕ} → Up F w v → Leads F w → Leads F v
   up_leads u h = let e = up_reads u directory_level in record { present = rw e h.present; whole = rw e h.whole }
@@ -65,40 +58,20 @@ module _ (F : Format) (laws : LawsOfMarking F) where
 
 -- THE WALK, WHERE FRAMES HAVE WORDS
 
-module _ (F : Format) (a : Asked) (m : Memory) where
-  root_known : (s : Spot) (x : Contents) → has_words x ≡ true → in_directory F a m s x ≡ by_directory F a m (seen s (word_in x s.index)) (F.reads directory_level (word_in x s.index))
-  root_known s (words w) e = refl
-  root_known s (cause c) e = untrue e
-
-  table_known : (d : Seen) (s : Spot) (x : Contents) → has_words x ≡ true → in_table F a m d s x ≡ by_table F a m d (seen s (word_in x s.index)) (F.reads table_level (word_in x s.index))
-  table_known d s (words w) e = refl
-  table_known d s (cause c) e = untrue e
-
-  target_known : (f : ℕ) (es : List Seen) (x : Contents) → has_words x ≡ true → arrive F a m f es x ≡ reached f es
-  target_known f es (words w) e = refl
-  target_known f es (cause c) e = untrue e
-
-  root_words : (root : ℕ) (x : Contents) → has_words x ≡ true → root_read F a root m x ≡ record { frame = root; index = directory_index a.address } ∷ below_directory a m (F.reads directory_level (word_in x (directory_index a.address)))
-  root_words root (words w) e = refl
-  root_words root (cause c) e = untrue e
-
-  table_words : (f i : ℕ) (x : Contents) → has_words x ≡ true → table_read f i x ≡ record { frame = f; index = i } ∷ []
-  table_words f i (words w) e = refl
-  table_words f i (cause c) e = untrue e
+-- a frame that has words is its words
+known : (x : Contents) → has_words x ≡ true → x ≡ words (word_in x)
+known (words w) e = refl
+known (cause c) e = cc
 
 -- a settled entry is not written
 unmarked : (F : Format) (k : ℕ) (s : Spot) (x : Contents) → F.marks s.level k (word_in x s.index) ≡ word_in x s.index → mark_of F k s x ≡ []
-unmarked F k s (words w) e = rw (eq-eqb _ _ e)
-unmarked F k s (cause c) e = refl
+unmarked F k s x e = grind (arith, nat_tests)
 
 -- THE GUEST'S WALK BY WHAT THE WALK REACHES
 
 module _ (F : Format) (a : Asked) (root : ℕ) (m : Memory) where
-  pub guest_reached : {f : ℕ} {es : List Seen} → walk_from F a m root ≡ reached f es → guest_walk F a root m ≡ to f (due F a.kind m es)
-  guest_reached e = ap (with_marks F a.kind m) e
-
-  pub guest_faulted : {x : Failure} → walk_from F a m root ≡ faulted x → guest_walk F a root m ≡ fault x
-  guest_faulted e = ap (with_marks F a.kind m) e
+  pub guest_walked : {x : Outcome} → walk_from F a m root ≡ x → guest_walk F a root m ≡ with_marks F a.kind m x
+  guest_walked e = ap (with_marks F a.kind m) e
 
   -- the two ways to arrive
   pub reaches_small : {g f : ℕ} → has_words (m root) ≡ true → Leads F (upper a m root)
@@ -109,7 +82,7 @@ module _ (F : Format) (a : Asked) (root : ℕ) (m : Memory) where
       → has_words (m f) ≡ true
       → walk_from F a m root ≡ reached f (seen (root_spot a root) (upper a m root) ∷ seen (table_spot a g) (lower a m g) ∷ [])
   reaches_small {g} {f} hr l t e hg p ok hf =
-      rw (root_known F a m (root_spot a root) (m root) hr, l.present, t, e, table_known F a m _ (table_spot a g) (m g) hg, p.present, p.page, p.frame, ok, target_known F a m f _ (m f) hf)
+      rw (known (m root) hr, l.present, t, e, known (m g) hg, p.present, p.page, p.frame, ok, known (m f) hf)
 
   pub reaches_large : has_words (m root) ≡ true → Leads F (upper a m root)
       → is_table (F.reads directory_level (upper a m root)) ≡ false
@@ -118,7 +91,7 @@ module _ (F : Format) (a : Asked) (root : ℕ) (m : Memory) where
       → walk_from F a m root ≡ reached (below F a m root + table_index a.address) (seen (root_spot a root) (upper a m root) ∷ [])
   reaches_large hr l t ok hf =
       let page : is_page (F.reads directory_level (upper a m root)) ≡ true = rw t at l.whole in
-      rw (root_known F a m (root_spot a root) (m root) hr, l.present, t, page, ok, target_known F a m _ _ (m (below F a m root + table_index a.address)) hf)
+      rw (known (m root) hr, l.present, t, page, ok, known (m (below F a m root + table_index a.address)) hf)
 
 module _ (F : Format) (laws : LawsOfMarking F) (a : Asked) (root : ℕ) (m : Memory) where
   pub walk_small : {w x f t : ℕ} → has_words (m root) ≡ true → Up F w (upper a m root) → Leads F w
@@ -130,7 +103,7 @@ module _ (F : Format) (laws : LawsOfMarking F) (a : Asked) (root : ℕ) (m : Mem
   walk_small {w} {x} {f} {t} hr u l tab e hf v p ht ok sw sx =
       let reads = up_reads F laws u directory_level in
       rw (
-        guest_reached F a root m (reaches_small F a root m hr (up_leads F laws u l) (rw reads tab) (rw (reads, below) e) hf (up_pages F laws v p) (up_allows_two F laws u v a.kind a.privilege ∙ ok) ht),
+        guest_walked F a root m (reaches_small F a root m hr (up_leads F laws u l) (rw reads tab) (rw (reads, below) e) hf (up_pages F laws v p) (up_allows_two F laws u v a.kind a.privilege ∙ ok) ht),
         unmarked F a.kind (root_spot a root) (m root) (up_settled F laws u directory_level a.kind sw),
         unmarked F a.kind (table_spot a f) (m f) (up_settled F laws v table_level a.kind sx),
       )
@@ -144,7 +117,7 @@ module _ (F : Format) (laws : LawsOfMarking F) (a : Asked) (root : ℕ) (m : Mem
       let reads = up_reads F laws u directory_level in
       let value : below F a m root ≡ f = rw (reads, below) e in
       rw (
-        guest_reached F a root m (reaches_large F a root m hr (up_leads F laws u l) (rw reads tab) (up_allows_one F laws u a.kind a.privilege ∙ ok) (rw value hf)),
+        guest_walked F a root m (reaches_large F a root m hr (up_leads F laws u l) (rw reads tab) (up_allows F laws [] [] u a.kind a.privilege ∙ ok) (rw value hf)),
         unmarked F a.kind (root_spot a root) (m root) (up_settled F laws u directory_level a.kind sw),
         value,
       )
@@ -153,7 +126,7 @@ module _ (F : Format) (laws : LawsOfMarking F) (a : Asked) (root : ℕ) (m : Mem
       → is_table (F.reads directory_level w) ≡ true → (F.reads directory_level w).value ≡ f → has_words (m f) ≡ true
       → words_read F a root m ≡ record { frame = root; index = directory_index a.address } ∷ record { frame = f; index = table_index a.address } ∷ []
   reads_small {w} {f} hr u l tab e hf =
-      rw (root_words F a m root (m root) hr, up_reads F laws u directory_level, l.present, tab, e, table_words F a m f (table_index a.address) (m f) hf)
+      rw (known (m root) hr, up_reads F laws u directory_level, l.present, tab, e, known (m f) hf)
 
 -- WALKS THAT ARRIVE
 
@@ -170,7 +143,7 @@ pub data Arrived (F : Format) (a : Asked) (m : Memory) (root : ℕ) : ℕ → Li
       → Arrived F a m root f (seen (root_spot a root) (upper a m root) ∷ seen (table_spot a (below F a m root)) (lower a m (below F a m root)) ∷ [])
 
 not_reached : {A : Type 0} {x : Failure} {f : ℕ} {es : List Seen} → faulted x ≡ reached f es → A
-not_reached e = clash cc
+not_reached e = cc
 
 module _ (F : Format) (a : Asked) (m : Memory) (root : ℕ) where
   moved : {g f : ℕ} {es qs : List Seen} → reached g es ≡ reached f qs → Arrived F a m root g es → Arrived F a m root f qs
@@ -201,7 +174,7 @@ module _ (F : Format) (a : Asked) (m : Memory) (root : ℕ) where
         → Arrived F a m root f es
     frame_arrives l t (words w) i q =
         let h : has_words (m (below F a m root)) ≡ true = rw i in
-        table_arrives l t h _ _ refl refl (sym (table_known F a m _ (table_spot a (below F a m root)) (m (below F a m root)) h) ∙ ap (in_table F a m _ (table_spot a (below F a m root))) i ∙ q)
+        table_arrives l t h _ _ refl refl (sym (ap (in_table F a m _ (table_spot a (below F a m root))) (known (m (below F a m root)) h)) ∙ ap (in_table F a m _ (table_spot a (below F a m root))) i ∙ q)
     frame_arrives l t (cause c) i q = not_reached q
 
     -- by how the directory's word reads
@@ -222,7 +195,7 @@ module _ (F : Format) (a : Asked) (m : Memory) (root : ℕ) where
       go : (x : Contents) → m root ≡ x → in_directory F a m (root_spot a root) x ≡ reached f es → Arrived F a m root f es
       go (words w) i e =
           let rooted : has_words (m root) ≡ true = rw i in
-          directory_arrives rooted _ _ _ refl refl refl (sym (root_known F a m (root_spot a root) (m root) rooted) ∙ q)
+          directory_arrives rooted _ _ _ refl refl refl (sym (ap (in_directory F a m (root_spot a root)) (known (m root) rooted)) ∙ q)
       go (cause c) i e = not_reached e
 
 -- MEMORY AFTER MARKS
@@ -247,7 +220,7 @@ module _ (F : Format) (k : ℕ) where
 
       go : (x : Contents) → m s.frame ≡ x → Marked m s (mark_of F k s x)
       go (words w) e = by (w s.index) (rw e) (eqb (F.marks s.level k (w s.index)) (w s.index)) refl
-      go (cause c) e = settled (λ h. untrue (rw e at h))
+      go (cause c) e = settled (λ h. cc)
 
   raises_by : (m : Memory) (s : Spot) (xs : List Write) → s.index < 1024 → Marked m s xs → Raises F m (put_all m xs)
   raises_by m s xs h (settled e) = raises_refl F m

@@ -1,19 +1,17 @@
 -- What holds of whole runs: their law, their tallies, and that refusals change nothing.
-use Rattle.std.proofs.Common.{◌≡◌, ℕ, zero, suc, ◌%◌, ◌<◌, Bool, true, false, cond, eqb, ltb, leb, ◌⊎◌, List, [], ◌∷◌, is_some, Some, None, Option, sym, refl, ap, ◌∙◌, subst, inl, inr, ⊎_elim, arith}
+use Rattle.std.proofs.Common.{◌≡◌, ℕ, ◌%◌, ◌<◌, Bool, true, false, cond, ◌||◌, eqb, ltb, leb, ◌⊎◌, List, [], ◌∷◌, is_some, Some, None, Option, sym, refl, ap, ◌∙◌, subst, inl, inr, arith}
+use Rattle.std.proofs.lemmas.Bool.{cond-true, cond_both}
+use Rattle.std.proofs.lemmas.Bool.Decides.{nat_tests}
 use Rattle.memory.specs.Memory.{has_words, stored}
 use Rattle.paging.specs.Formats.{Format, LawsOfMarking}
-use Rattle.paging.specs.Terms.{store}
 use Rattle.policies.specs.Orders.{OrdersKept, Rule}
-use Rattle.walk.specs.Walk.{Asked, Outcome, faulted, reached, table_index, walk_from, word_index}
-use Rattle.shadow.specs.Slots.{is_directory, is_protected}
+use Rattle.walk.specs.Walk.{Asked, Outcome, faulted, reached, walk_from}
 use Rattle.shadow.specs.declared.slots.SlotTable.{SlotTable}
 use Rattle.runs.specs.Histories.{History, Opening}
 use Rattle.runs.specs.Laws.{LawfulFrom, UnlessClosed, after_call}
 use Rattle.runs.specs.Runs.{AddsUp, RefusalsKeep, Run, RunsLawful, RunsToCloseLawful, TalliesAddUp, goes, opened, replies, replies_to_close}
-use Rattle.runs.specs.Terms.{Call, Reply, Tallies, access, close_run, closed, deliver, done, flush, flush_all, flush_page, give_up, hidden, no_exit, open_run, poke, refused, set_mode, switch, switch_root, through, trace, true_exit}
-use Rattle.runs.specs.Terms as reply
-use Rattle.runs.specs.Unit.{Ended, Running, State, Traced, access_by, access_ends, asked_in, call_limit, counted, hit_target, in_run, is_pending, no_tallies, opened_at, out_of_run, refuse, step, step_in, store_traced, switch_ends, traced, unless_full, unless_pending, walk_ends}
-use Rattle.runs.proofs.Basics.{clash}
+use Rattle.runs.specs.Terms.{Call, Reply, Tallies, access, close_run, closed, deliver, done, flush, flush_all, flush_page, give_up, no_exit, open_run, poke, refused, set_mode, switch, switch_root, true_exit}
+use Rattle.runs.specs.Unit.{Ended, Running, State, access_by, access_ends, asked_in, call_limit, counted, hit_target, in_run, is_pending, no_tallies, opened_at, out_of_run, refuse, step, step_in, store_traced, switch_ends, traced, unless_full, unless_pending, walk_ends}
 use Rattle.runs.proofs.RunsGood.{law_of}
 
 -- WHAT A CALL CAN END IN
@@ -22,121 +20,94 @@ use Rattle.runs.proofs.RunsGood.{law_of}
 -- counted; or closed.
 pub data Ends (s : State) (r : Running) : Ended → Type 0 where
   kept : (n : ℕ) → Ends s r (refuse s n)
-  on : (e : Ended) (k : Running) → e.next.run ≡ Some k → ((n : ℕ) → e.reply ≡ refused n → ⊥) → ((t : Tallies) → e.reply ≡ closed t → ⊥)
+  on : (e : Ended) (k : Running) → e.next.run ≡ Some k → ((n : ℕ) → e.reply ≡ refused n → ⊥)
       → (k.hart.tallies ≡ r.hart.tallies) ⊎ ((x : ℕ) × (v : ℕ) × (x < 6) × (k.hart.tallies ≡ counted x v r.hart.tallies)) → Ends s r e
   over : (e : Ended) (t : Tallies) → e.reply ≡ closed t → e.next.run ≡ None → Ends s r e
 
 -- the exit of an access that walked
 exit_small : (a : Asked) (k f : ℕ) (t : SlotTable) → (traced a k f t).exit < 6
-exit_small a k f t = go (eqb a.kind store)
-  where
-    tests : (b c : Bool) (x y z : Traced) → x.exit < 6 → y.exit < 6 → z.exit < 6 → (cond {A = Traced} b x (cond c y z)).exit < 6
-    tests true c x y z p q r = p
-    tests false true x y z p q r = q
-    tests false false x y z p q r = r
-
-    stored : (s j i : ℕ) → (store_traced s j f i t).exit < 6
-    stored s j i = unfold store_traced in tests (is_directory f t) (is_protected f t) _ _ _ (omega arith) (omega arith) (omega arith)
-
-    go : (b : Bool) → (cond {A = Traced} b (store_traced k (table_index a.address) f (word_index a.address) t) (record { table = t; exit = hidden })).exit < 6
-    go true = stored k (table_index a.address) (word_index a.address)
-    go false = omega arith
+exit_small a k f t = unfold store_traced in grind (arith, nat_tests)
 
 module _ (F : Format) (R : Rule) (s : State) (r : Running) where
   walk_ending : (a : Asked) (w : ℕ) (x : Outcome) → Ends s r (walk_ends R F s r a w x)
-  walk_ending a w (reached f es) = on _ _ refl (λ n e. clash cc) (λ t e. clash cc) (inr (_, _, exit_small a _ f _, refl))
-  walk_ending a w (faulted x) = on _ _ refl (λ n e. clash cc) (λ t e. clash cc) (inr (true_exit, 0, omega arith, refl))
+  walk_ending a w (reached f es) = on _ _ refl (λ n e. cc) (inr (_, _, exit_small a _ f _, refl))
+  walk_ending a w (faulted x) = on _ _ refl (λ n e. cc) (inr (true_exit, 0, omega arith, refl))
 
   access_ending : (a : Asked) (w : ℕ) → Ends s r (access_ends R F s r a w)
   unfolding access_ends
   access_ending a w = go (hit_target F a r.hart.root r.table)
     where
       go : (x : Option ℕ) → Ends s r (access_by R F s r a w x)
-      go (Some f) = on _ _ refl (λ n e. clash cc) (λ t e. clash cc) (inr (no_exit, 0, omega arith, refl))
+      go (Some f) = on _ _ refl (λ n e. cc) (inr (no_exit, 0, omega arith, refl))
       go None = walk_ending a w (walk_from F a s.memory r.hart.root)
 
-  either : (b : Bool) (x y : Ended) → Ends s r x → Ends s r y → Ends s r (cond b x y)
-  either true x y p q = p
-  either false x y p q = q
-
   unless : (e : Ended) → Ends s r e → Ends s r (unless_pending s r e)
-  unless e p = either (is_some r.hart.pending) (refuse s 6) e (kept 6) p
+  unless e p = cond_both (is_some r.hart.pending) (refuse s 6) e (Ends s r) (λ z. kept 6) (λ z. p)
 
   counting : (e : Ended) → Ends s r e → Ends s r (unless_full s r e)
-  counting e p = unless _ (either (leb call_limit r.hart.tallies.calls) (refuse s 7) e (kept 7) p)
+  counting e p = unless _ (cond_both (leb call_limit r.hart.tallies.calls) (refuse s 7) e (Ends s r) (λ z. kept 7) (λ z. p))
 
   switching : (f : ℕ) → Ends s r (switch_ends R s r f)
   unfolding switch_ends
-  switching f = on _ _ refl (λ n e. clash cc) (λ t e. clash cc) (inr (switch, _, omega arith, refl))
+  switching f = on _ _ refl (λ n e. cc) (inr (switch, _, omega arith, refl))
 
   settling : (e : Ended) (x : Bool) → Ends s r e → Ends s r (cond x e (refuse s 10))
-  settling e x p = either x e (refuse s 10) p (kept 10)
+  settling e x p = cond_both x e (refuse s 10) (Ends s r) (λ z. p) (λ z. kept 10)
 
   pub ending : (c : Call) → Ends s r (in_run R F s r c)
   ending (open_run f n) = kept 1
-  ending (access k a w) = counting _ (either (eqb (a % 4) 0) _ (refuse s 5) (access_ending (asked_in r k a) w) (kept 5))
-  ending flush_all = counting _ (on _ _ refl (λ n e. clash cc) (λ t e. clash cc) (inr (flush, 0, omega arith, refl)))
-  ending (flush_page a) = counting _ (on _ _ refl (λ n e. clash cc) (λ t e. clash cc) (inr (flush, 0, omega arith, refl)))
-  ending (switch_root f) = counting _ (either (has_words (s.memory f)) _ (refuse s 3) (switching f) (kept 3))
-  ending (set_mode p) = unless _ (on _ _ refl (λ n e. clash cc) (λ t e. clash cc) (inl refl))
-  ending (deliver x) = settling _ (is_pending x r.hart.pending) (on _ _ refl (λ n e. clash cc) (λ t e. clash cc) (inl refl))
-  ending (give_up x) = settling _ (is_pending x r.hart.pending) (on _ _ refl (λ n e. clash cc) (λ t e. clash cc) (inl refl))
+  ending (access k a w) = counting _ (cond_both (eqb (a % 4) 0) _ (refuse s 5) (Ends s r) (λ z. access_ending (asked_in r k a) w) (λ z. kept 5))
+  ending flush_all = counting _ (on _ _ refl (λ n e. cc) (inr (flush, 0, omega arith, refl)))
+  ending (flush_page a) = counting _ (on _ _ refl (λ n e. cc) (inr (flush, 0, omega arith, refl)))
+  ending (switch_root f) = counting _ (cond_both (has_words (s.memory f)) _ (refuse s 3) (Ends s r) (λ z. switching f) (λ z. kept 3))
+  ending (set_mode p) = unless _ (on _ _ refl (λ n e. cc) (inl refl))
+  ending (deliver x) = settling _ (is_pending x r.hart.pending) (on _ _ refl (λ n e. cc) (inl refl))
+  ending (give_up x) = settling _ (is_pending x r.hart.pending) (on _ _ refl (λ n e. cc) (inl refl))
   ending close_run = unless _ (over _ r.hart.tallies refl refl)
   ending (poke f i w) = kept 1
 
 -- REFUSALS
 
 module _ (F : Format) (R : Rule) where
-  kept_state : (s : State) (r : Running) (n : ℕ) {e : Ended} → Ends s r e → e.reply ≡ refused n → e.next ≡ s
+  -- a state that a refusal leaves
+  abbrev Keeps : State → ℕ → Ended → Type 0
+  Keeps s n e = e.reply ≡ refused n → e.next ≡ s
+
+  kept_state : (s : State) (r : Running) (n : ℕ) {e : Ended} → Ends s r e → Keeps s n e
   kept_state s r n (kept k) z = refl
-  kept_state s r n (on e k q other open_still t) z = absurd (other n z)
-  kept_state s r n (over e t q none) z = let u : closed t ≡ refused n = sym q ∙ z in clash cc
+  kept_state s r n (on e k q other t) z = absurd (other n z)
+  kept_state s r n (over e t q none) z = cc
 
-  cond_kept : (s : State) (n : ℕ) (b : Bool) (x y : Ended) → (x.reply ≡ refused n → x.next ≡ s) → (y.reply ≡ refused n → y.next ≡ s) → (cond b x y).reply ≡ refused n → (cond b x y).next ≡ s
-  cond_kept s n true x y p q z = p z
-  cond_kept s n false x y p q z = q z
+  -- done after two tests, or refused by one of them
+  done_kept : (s : State) (n j k x : ℕ) (a b : Bool) (t : State) → Keeps s n (cond a (refuse s j) (cond b (record { reply = done x; next = t }) (refuse s k)))
+  done_kept s n j k x true b t z = refl
+  done_kept s n j k x false true t z = cc
+  done_kept s n j k x false false t z = refl
 
-  outside_kept : (s : State) (c : Call) (n : ℕ) → (out_of_run R F s c).reply ≡ refused n → (out_of_run R F s c).next ≡ s
-  outside_kept s (open_run f k) n z =
-      cond_kept s n _ (refuse s 4) _ (λ q. refl) (cond_kept s n (has_words (s.memory f)) (record { reply = done no_exit; next = opened_at R s.memory f k }) (refuse s 3) (λ q. clash cc) (λ q. refl)) z
-  outside_kept s (access k a w) n z = refl
-  outside_kept s flush_all n z = refl
-  outside_kept s (flush_page a) n z = refl
-  outside_kept s (switch_root f) n z = refl
-  outside_kept s (set_mode p) n z = refl
-  outside_kept s (deliver x) n z = refl
-  outside_kept s (give_up x) n z = refl
-  outside_kept s close_run n z = refl
-  outside_kept s (poke f i w) n z =
-      cond_kept s n (ltb 1023 i) (refuse s 8) _ (λ q. refl) (cond_kept s n (has_words (s.memory f)) (record { reply = done no_exit; next = record { memory = stored s.memory f i w; run = None } }) (refuse s 3) (λ q. clash cc) (λ q. refl)) z
+  outside_kept : (s : State) (c : Call) (n : ℕ) → Keeps s n (out_of_run R F s c)
+  outside_kept s (open_run f k) n = done_kept s n 4 3 no_exit (ltb k 2 || ltb 8 k) (has_words (s.memory f)) (opened_at R s.memory f k)
+  outside_kept s (poke f i w) n = done_kept s n 8 3 no_exit (ltb 1023 i) (has_words (s.memory f)) (record { memory = stored s.memory f i w; run = None })
+  outside_kept s c n = λ z. refl
 
   pub refusals_keep : RefusalsKeep F R
   refusals_keep s c n = go s.run
     where
-      go : (x : Option Running) → (step_in R F s c x).reply ≡ refused n → (step_in R F s c x).next ≡ s
-      go None z = outside_kept s c n z
-      go (Some r) z = kept_state s r n (ending F R s r c) z
+      go : (x : Option Running) → Keeps s n (step_in R F s c x)
+      go None = outside_kept s c n
+      go (Some r) = kept_state s r n (ending F R s r c)
 
 -- TALLIES
 
 -- one exit more, of a kind that there is
 adds_counted : (x v : ℕ) (t : Tallies) → x < 6 → AddsUp t → AddsUp (counted x v t)
-adds_counted zero v t l e = omega arith
-adds_counted (suc zero) v t l e = omega arith
-adds_counted (suc (suc zero)) v t l e = omega arith
-adds_counted (suc (suc (suc zero))) v t l e = omega arith
-adds_counted (suc (suc (suc (suc zero)))) v t l e = omega arith
-adds_counted (suc (suc (suc (suc (suc zero))))) v t l e = omega arith
-adds_counted (suc (suc (suc (suc (suc (suc x)))))) v t l e = absurd (omega arith)
+adds_counted x v t l e = grind (arith, nat_tests)
 
 module _ (F : Format) (R : Rule) where
   adds_on : (s : State) (r k : Running) {e : Ended} → Ends s r e → s.run ≡ Some r → e.next.run ≡ Some k → AddsUp r.hart.tallies → AddsUp k.hart.tallies
-  adds_on s r k (kept n) p q sum = let same_run : r ≡ k = cc (sym p ∙ q) in subst (λ y. AddsUp y.hart.tallies) same_run sum
-  adds_on s r k (on e j is other open_still t) p q sum =
-      let same_run : j ≡ k = cc (sym is ∙ q) in
-      subst (λ y. AddsUp y.hart.tallies) same_run
-      (⊎_elim (λ z. subst AddsUp (sym z) sum) (λ z. subst AddsUp (sym z.3) (adds_counted z.0 z.1 r.hart.tallies z.2 sum)) t)
-  adds_on s r k (over e t z none) p q sum = let u : None ≡ Some k = sym none ∙ q in clash cc
+  adds_on s r k (kept n) p q sum = let same_run : r ≡ k = cc in rw (← same_run) sum
+  adds_on s r k (on e j is other (inl same)) p q sum = let same_run : j ≡ k = cc in rw (← same_run, same) sum
+  adds_on s r k (on e j is other (inr z)) p q sum = let same_run : j ≡ k = cc in rw (← same_run, z.3) (adds_counted z.0 z.1 r.hart.tallies z.2 sum)
+  adds_on s r k (over e t z none) p q sum = cc
 
   tallies_in : Option Running → Tallies
   tallies_in None = no_tallies
@@ -152,56 +123,50 @@ module _ (F : Format) (R : Rule) where
   tallies_add_up o h s (goes {h = h'} {s = s'} run c open_now) k e = go s'.run refl (λ r q. tallies_add_up o h' s' run r q)
     where
       go : (x : Option Running) → s'.run ≡ x → ((r : Running) → s'.run ≡ Some r → AddsUp r.hart.tallies) → AddsUp k.hart.tallies
-      go None q sums = let u : false ≡ true = sym (ap is_some q) ∙ open_now in clash cc
+      go None q sums = cc
       go (Some r) q sums = adds_on s' r k (ending F R s' r c) q (sym (ap (λ y. (step_in R F s' c y).next.run) q) ∙ e) (sums r q)
 
 -- WHOLE RUNS
 
 module _ (F : Format) (laws : LawsOfMarking F) (R : Rule) (kept_order : OrdersKept R) (o : Opening) where
-  unless_closed : (x : Reply) (P : Type 0) → ((t : Tallies) → x ≡ closed t → ⊥) → P → UnlessClosed x P
-  unless_closed (refused n) P other p = p
-  unless_closed (through r) P other p = p
-  unless_closed (reply.faulted x) P other p = p
-  unless_closed (done e) P other p = p
-  unless_closed (closed t) P other p = absurd (other t refl)
+  -- a run that no reply closes is still open
+  still_open : (s : State) (r : Running) {e : Ended} → Ends s r e → s.run ≡ Some r → ((t : Tallies) → e.reply ≡ closed t → ⊥) → is_some e.next.run ≡ true
+  still_open s r (kept n) q other = ap is_some q
+  still_open s r (on e k is not_refused t) q other = ap is_some is
+  still_open s r (over e t z none) q other = absurd (other t z)
 
-  closed_rest : (x : Reply) (P : Type 0) (t : Tallies) → x ≡ closed t → UnlessClosed x P
-  closed_rest x P t e = subst (λ y. UnlessClosed y P) (sym e) tt
+  step_open : (s : State) (c : Call) → is_some s.run ≡ true → ((t : Tallies) → (step R F s c).reply ≡ closed t → ⊥) → is_some (step R F s c).next.run ≡ true
+  step_open s c open_now = go s.run refl
+    where
+      go : (x : Option Running) → s.run ≡ x → ((t : Tallies) → (step R F s c).reply ≡ closed t → ⊥) → is_some (step R F s c).next.run ≡ true
+      go None q other = cc
+      go (Some r) q other = still_open s r (subst (λ y. Ends s r (step_in R F s c y)) (sym q) (ending F R s r c)) q other
 
-  -- the calls after one call
-  rest : (s : State) (r : Running) {e : Ended} (P : Type 0) → Ends s r e → s.run ≡ Some r → (is_some e.next.run ≡ true → P) → UnlessClosed e.reply P
-  rest s r P (kept n) q p = p (ap is_some q)
-  rest s r P (on e k is other open_still t) q p = unless_closed e.reply P open_still (p (ap is_some is))
-  rest s r P (over e t z none) q p = closed_rest e.reply P t z
+  unless_closed : (x : Reply) (P : Type 0) → (((t : Tallies) → x ≡ closed t → ⊥) → P) → UnlessClosed x P
+  unless_closed (closed t) P p = tt
+  unless_closed x P p = p (λ t e. cc)
+
+  -- Lists of answers that begin with that of the first call, and while the run is open go on with those to the calls after it.
+  module _ (answers : State → List Call → List Reply) (more : State → Call → List Call → List Reply)
+      (first : (s : State) (c : Call) (cs : List Call) → answers s (c ∷ cs) ≡ (step R F s c).reply ∷ more s c cs)
+      (going : (s : State) (c : Call) (cs : List Call) → is_some (step R F s c).next.run ≡ true → more s c cs ≡ answers (step R F s c).next cs) where
+    lawful_answers : (cs : List Call) (h : History) (s : State) → Run F R o h s → is_some s.run ≡ true → LawfulFrom F o h cs (answers s cs)
+    lawful_answers [] h s run open_now = tt
+    lawful_answers (c ∷ cs) h s run open_now = subst (LawfulFrom F o h (c ∷ cs)) (sym (first s c cs)) (
+      law_of F laws R kept_order o h s c run,
+      unless_closed _ _ (λ other.
+          let still = step_open s c open_now other in
+          subst (LawfulFrom F o (after_call o h c (step R F s c).reply) cs) (sym (going s c cs still))
+          (lawful_answers cs (after_call o h c (step R F s c).reply) (step R F s c).next (goes run c open_now) still)),
+    )
 
   lawful_from : (cs : List Call) (h : History) (s : State) → Run F R o h s → is_some s.run ≡ true → LawfulFrom F o h cs (replies F R s cs)
-  lawful_from [] h s run open_now = tt
-  lawful_from (c ∷ cs) h s run open_now = (
-    law_of F laws R kept_order o h s c run,
-    go s.run refl (λ z. lawful_from cs (after_call o h c (step R F s c).reply) (step R F s c).next (goes run c open_now) z),
-  )
-    where
-      go : (x : Option Running) → s.run ≡ x → (is_some (step R F s c).next.run ≡ true → LawfulFrom F o (after_call o h c (step R F s c).reply) cs (replies F R (step R F s c).next cs))
-          → UnlessClosed (step R F s c).reply (LawfulFrom F o (after_call o h c (step R F s c).reply) cs (replies F R (step R F s c).next cs))
-      go None q more = let u : false ≡ true = sym (ap is_some q) ∙ open_now in clash cc
-      go (Some r) q more = rest s r _ (subst (λ y. Ends s r (step_in R F s c y)) (sym q) (ending F R s r c)) q more
-
-  -- what is said of the calls after c, whether or not they are made
-  abbrev Left : History → State → Call → List Call → Bool → Type 0
-  Left h s c cs b = LawfulFrom F o (after_call o h c (step R F s c).reply) cs (cond b (replies_to_close F R (step R F s c).next cs) [])
+  lawful_from = lawful_answers (replies F R) (λ s c cs. replies F R (step R F s c).next cs) (λ s c cs. refl) (λ s c cs e. refl)
 
   lawful_to_close : (cs : List Call) (h : History) (s : State) → Run F R o h s → is_some s.run ≡ true → LawfulFrom F o h cs (replies_to_close F R s cs)
-  lawful_to_close [] h s run open_now = tt
-  lawful_to_close (c ∷ cs) h s run open_now = (
-    law_of F laws R kept_order o h s c run,
-    go s.run refl
-        (λ z. subst (Left h s c cs) (sym z) (lawful_to_close cs (after_call o h c (step R F s c).reply) (step R F s c).next (goes run c open_now) z)),
-  )
-    where
-      go : (x : Option Running) → s.run ≡ x → (is_some (step R F s c).next.run ≡ true → Left h s c cs (is_some (step R F s c).next.run))
-          → UnlessClosed (step R F s c).reply (Left h s c cs (is_some (step R F s c).next.run))
-      go None q more = let u : false ≡ true = sym (ap is_some q) ∙ open_now in clash cc
-      go (Some r) q more = rest s r _ (subst (λ y. Ends s r (step_in R F s c y)) (sym q) (ending F R s r c)) q more
+  lawful_to_close =
+      lawful_answers (replies_to_close F R) (λ s c cs. cond (is_some (step R F s c).next.run) (replies_to_close F R (step R F s c).next cs) [])
+      (λ s c cs. refl) (λ s c cs e. cond-true _ _ [] e)
 
 pub runs_lawful : (F : Format) → LawsOfMarking F → (R : Rule) → OrdersKept R → RunsLawful F R
 runs_lawful F laws R kept_order o n l u has bounded cs =

@@ -1,15 +1,15 @@
 -- What a word was raised from in a window it is still raised from, where no store went there; memory has the last word written.
-use Rattle.std.proofs.Common.{◌≡◌, ℕ, ◌/◌, ◌%◌, ◌^◌, ◌<◌, Bool, true, false, cond, eqb, List, [], ◌∷◌, sym, refl, ap, ◌∙◌, subst, mod-lt, lit<}
+use Rattle.std.proofs.lemmas.Bool.Decides.{nat_tests}
+use Rattle.std.proofs.Common.{◌≡◌, ℕ, ◌/◌, ◌%◌, ◌^◌, ◌<◌, Bool, true, false, cond, eqb, List, [], ◌∷◌, sym, refl, ap, ◌∙◌, subst, mod-lt, lit<, arith}
 use Rattle.std.proofs.lemmas.Bool.{cond-false, or_parts}
 use Rattle.memory.specs.Memory.{Memory, frame_words, has_words}
 use Rattle.paging.specs.Formats.{Format}
 use Rattle.paging.specs.Terms.{store}
 use Rattle.walk.specs.Marking.{Write, put_all}
 use Rattle.walk.specs.Walk.{Asked, directory_index, table_index, word_index}
-use Rattle.runs.specs.Histories.{Event, History, Opening, Sometime, at_end, at_opening, between, covers, earlier, failed, flushed_all, flushed_page, marks_in, memory_at, memory_between, moded, settled, stored_since, stores_in, switched, went, writes_to}
+use Rattle.runs.specs.Histories.{Event, History, Opening, Sometime, at_end, at_opening, between, covers, earlier, marks_in, memory_at, memory_between, stored_since, stores_in, went, writes_to}
 use Rattle.runs.specs.Laws.{last_put, last_written, word_at}
 use Rattle.runs.specs.Terms.{Through}
-use Rattle.runs.proofs.Basics.{clash}
 use Rattle.runs.proofs.Memories.{has_put_all, last_put_append, last_put_is, put_all_other, up_trans}
 use Rattle.runs.proofs.Moments.{Raised, SmallWrites}
 use Rattle.runs.proofs.Sound.{Up}
@@ -63,22 +63,11 @@ small_stores (went a w r) = go (eqb a.kind store)
     go : (b : Bool) → SmallWrites (cond b (record { frame = r.target; index = word_index a.address; word = w } ∷ []) [])
     go true = (word_index_small a.address, tt)
     go false = tt
-small_stores (failed a x) = tt
-small_stores flushed_all = tt
-small_stores (flushed_page a) = tt
-small_stores (switched r) = tt
-small_stores (moded p) = tt
-small_stores settled = tt
+small_stores e = tt
 
 -- an event with marks covers no page
 marks_uncovered : (e : Event) (p : ℕ) {x : Write} {xs : List Write} → marks_in e ≡ x ∷ xs → covers e p ≡ false
-marks_uncovered (went a w r) p m = refl
-marks_uncovered (failed a x) p m = refl
-marks_uncovered flushed_all p m = clash cc
-marks_uncovered (flushed_page a) p m = clash cc
-marks_uncovered (switched r) p m = clash cc
-marks_uncovered (moded q) p m = refl
-marks_uncovered settled p m = refl
+marks_uncovered e p m = grind (arith, nat_tests)
 
 -- the window goes on through an event that does not cover the page: neither its store nor one before went there
 unstored : (f i p : ℕ) (e : Event) (h : History) → covers e p ≡ false → stored_since f i p (e ∷ h) ≡ false → (writes_to f i (stores_in e) ≡ false) × (stored_since f i p h ≡ false)
