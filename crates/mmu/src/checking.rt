@@ -1,33 +1,22 @@
 //! Checking tables against guest memory.
 ghost use Rattle.std.specs.Prelude.{◌≡◌};
-ghost use Rattle.runs.specs.Unit.{resync, resync_all, table_frame};
+ghost use Rattle.runs.specs.Unit.{resync, resync_all};
 
 use crate::unit::Mmu;
 use crate::words::frame_words;
-use memory::guest::{Frame, GuestMemory};
+use memory::guest::GuestMemory;
 use policies::policy::EvictionPolicy;
 use shadow::slots::SLOT_LIMIT;
-use slot::slots::{Shadow, SlotNumber};
-
-/// The frame of a table that is shadowed: 0 for anything else.
-fn table_frame(shadow: Shadow) -> Frame
-    ensures { result ≡ table_frame shadow }
-{
-    match shadow {
-        Shadow::Table(frame, _) => frame,
-        Shadow::Nothing | Shadow::Directory(_) | Shadow::Split(_) => 0,
-    }
-}
+use slot::slots::{Shadow, SlotNumber, SyncState};
 
 impl<P: EvictionPolicy> Mmu<P> {
     /// Checks the table that a slot shadows against guest memory, if it is unsynchronised.
-    #[tactic(auto, unfolding(runs::specs::Unit::resync))]
+    #[tactic(auto, using(crate::proofs::Checked::checked, crate::proofs::Checked::unchecked))]
     pub fn resync<M: GuestMemory>(&mut self, memory: &M, slot: SlotNumber)
         ensures table { self.new.table ≡ resync (M.GuestMemory.frames memory.now) slot self.old.table }
         ensures policy { self.new.policy ≡ self.old.policy }
     {
-        if self.table.is_unsynchronised(slot) {
-            let frame = table_frame(self.table.shadow(slot));
+        if let Shadow::Table(frame, SyncState::Unsynchronised) = self.table.shadow(slot) {
             self.table.check_table(slot, &frame_words(memory, frame));
         }
     }

@@ -1,5 +1,5 @@
 //! The words of a frame, all at once.
-ghost use Rattle.std.specs.Prelude.{◌≡◌};
+ghost use Rattle.std.specs.Prelude.{◌≡◌, ◌<◌};
 ghost use Rattle.runs.specs.Laws.{word_at};
 ghost use Rattle.runs.specs.Unit.{frame_list};
 
@@ -17,5 +17,10 @@ pub fn word_or_zero<M: GuestMemory>(memory: &M, frame: Frame, index: u32) -> Wor
 pub fn frame_words<M: GuestMemory>(memory: &M, frame: Frame) -> [Word; FRAME_WORDS]
     ensures { result ≡ frame_list (M.GuestMemory.frames memory.now) frame }
 {
-    array::from_fn(|i| word_or_zero(memory, frame, i as u32))
+    array::from_fn(
+        |index| -> Word
+            requires { index < 1024 }
+            ensures { result ≡ word_at (M.GuestMemory.frames memory.entry.now) frame index }
+        { word_or_zero(memory, frame, index as u32) },
+    )
 }
