@@ -20,6 +20,7 @@ fn is_good_link(table: &SlotTable, word: Word, thing: Thing, place: Place) -> bo
 pub fn link_slot(place: Place) -> SlotNumber
     ensures { result ≡ link_slot place }
 {
+    // No Option: the definition answers 0, and a caller asks only where a link is known to be.
     match place {
         Place::Link { slot, .. } => slot,
         Place::Empty | Place::Leaf { .. } | Place::Piece { .. } => 0,
