@@ -1,27 +1,21 @@
--- A loop that writes over each number of a list what its index gives.
-use Rattle.std.proofs.Common.{◌≡◌, ℕ, zero, suc, ◌+◌, ◌<◌, ◌≤◌, List, [], ◌∷◌, ◌++◌, length, drop, set, sym, ap, ◌∙◌, add-one, arith}
-use Rattle.std.proofs.lemmas.List.{append-nil, drop_all}
+-- An array that a closure made, where each call gives what the index says and leaves the closure as it was.
+use Rattle.std.proofs.Common.{◌≡◌, ℕ, zero, suc, ◌+◌, List, length, drop, slice_index_or, subst, ◌∙◌, add-one, arith}
+use Rattle.std.proofs.lemmas.List.{drop_all}
+use Rattle.std.proofs.Math.Seq.{drop-cons}
+use Rattle.std.specs.Array.{IsFromFnResult, IsFromFnResultFrom}
+use Rattle.std.specs.Fn.{Called}
+use denote.Param.Members.{Mut}
 use Rattle.runs.specs.Unit.{listed}
 
--- the first i numbers are written, the others are as they were
-abbrev pub Listed : (ℕ → ℕ) → List ℕ → List ℕ → ℕ → Type 0
-Listed w xs ys i = ys ≡ listed w 0 i ++ drop i xs
+module _ {F : Type 0} (g : Mut F (ℕ × Unit {0}) ℕ) (f : F) (w : ℕ → ℕ) (gives : (i y : ℕ) (q : F) → Called g f (i, tt) y q → (y ≡ w i) × (q ≡ f)) where
+  made_from : (xs : List ℕ) (n i : ℕ) → length xs ≡ i + n → IsFromFnResultFrom g f xs i n → drop i xs ≡ listed w i n
+  made_from xs zero i e h = drop_all i xs (omega arith)
+  made_from xs (suc n) i e (q, y, place, call, rest) =
+      let (same, stays) = gives i y q call in
+      let first : slice_index_or xs i 0 ≡ w i = place.1 0 ∙ same in
+      let others : drop (i + 1) xs ≡ listed w (i + 1) n = made_from xs n (i + 1) (omega arith) (subst (λ p. IsFromFnResultFrom g p xs (i + 1) n) stays rest) in
+      let shifted = rw add-one at others in
+      drop-cons xs i 0 (omega arith) ∙ cc
 
--- number i of numbers that begin at index k, which is index n
-step : (w : ℕ → ℕ) (xs : List ℕ) (k i n : ℕ) → n ≡ k + i → i < length xs → set (listed w k i ++ drop i xs) i (w n) ≡ listed w k (suc i) ++ drop (suc i) xs
-step w [] k i n e h = absurd (omega arith)
-step w (x ∷ xs) k zero n e h = let same : n ≡ k = omega arith in ap (λ m. w m ∷ xs) same
-step w (x ∷ xs) k (suc i) n e h = ap (λ ys. w k ∷ ys) (step w xs (suc k) i n (omega arith) (omega arith))
-
-pub listed_more : (w : ℕ → ℕ) (xs ys : List ℕ) (i v : ℕ) → i < length xs → Listed w xs ys i → v ≡ w i → Listed w xs (set ys i v) (i + 1)
-listed_more w xs ys i v h e f =
-    ap (set ys i) f
-    ∙ ap (λ zs. set zs i (w i)) e
-    ∙ step w xs 0 i i (omega arith) h
-    ∙ ap (λ n. listed w 0 n ++ drop n xs) (sym (add-one i))
-
-pub listed_all : (w : ℕ → ℕ) (xs ys : List ℕ) (i : ℕ) → i ≤ length xs → length xs ≤ i → Listed w xs ys i → ys ≡ listed w 0 (length xs)
-listed_all w xs ys i h k e =
-    let same : i ≡ length xs = omega arith in
-    let rest : listed w 0 i ++ drop i xs ≡ listed w 0 i = rw (drop_all i xs k, append-nil) in
-    e ∙ rest ∙ ap (listed w 0) same
+  pub made : (xs : List ℕ) (n : ℕ) → IsFromFnResult g f xs n → xs ≡ listed w 0 n
+  made xs n h = made_from xs n 0 (omega arith) h.each
