@@ -1,10 +1,11 @@
 //! Flat memory.
-ghost use Rattle.std.specs.Prelude.{◌≡◌, true};
+ghost use Rattle.std.specs.Prelude.{◌≡◌, ◌*◌, true, IfOk, replicate};
 ghost use Rattle.memory.specs.Flat.{ToldWhole, flat, position_of, whole};
 ghost use Rattle.memory.specs.Memory.{stored};
 ghost use Rattle.std.proofs.Common.{rules};
 
 use crate::guest::{Cause, FRAME_LIMIT, FRAME_WORDS, Frame, GuestMemory, Word};
+use std::alloc::{AllocError, Global};
 
 /// The whole frames of a store of words, at most 4,096 of them. A rest that fills no frame is never read or written.
 #[derive(Drop)]
@@ -13,6 +14,14 @@ pub struct Flat {
 }
 
 impl Flat {
+    /// So many frames, with all words 0.
+    pub fn zeroed(heap: Global, frames: Frame) -> Result<Flat, AllocError>
+        ensures { IfOk result (λ memory. memory.store.items ≡ replicate (frames * 1024) 0) }
+    {
+        let store = vec![in heap; 0u32; frames as usize * FRAME_WORDS]?;
+        Ok(Flat { store })
+    }
+
     /// Is the frame whole in the store? Where it is not, its cause is 1.
     fn whole(&self, frame: Frame) -> Result<(), Cause>
         ensures { ToldWhole self.now.store.items frame result }
