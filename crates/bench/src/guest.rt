@@ -17,7 +17,7 @@ const FIRST_PAGE: Frame = 16;
 
 pub const PAGES: u32 = 64;
 
-const FRAMES: usize = 80;
+const FRAMES: Frame = 80;
 
 /// Present and writable.
 const OPEN: Word = 0x003;
@@ -42,9 +42,7 @@ pub fn entry_address(table: u32, page: u32) -> Address {
 
 /// Entry i of directory d names table i + d modulo 7. Each table maps the 64 pages at 0 to 63. Page p holds p + 1.
 pub fn guest_memory(heap: Global) -> Result<Flat, AllocError> {
-    let mut memory = Flat {
-        store: vec![in heap; 0u32; 1024 * FRAMES]?,
-    };
+    let mut memory = Flat::zeroed(heap, FRAMES)?;
     for table in 0..TABLES {
         for directory in 0..DIRECTORIES {
             let frame = FIRST_TABLE + (table + directory) % TABLES;

@@ -222,9 +222,7 @@ fn all_fault<F: PageFormat>(rt: &impl Abort, memory: &mut Flat, cases: &[Case]) 
 
 #[test]
 fn every_reason(rt: HostRuntime) -> Result<(), Fail> {
-    let mut memory = Flat {
-        store: vec![in rt.alloc(); 0u32; 4 * 1024]?,
-    };
+    let mut memory = Flat::zeroed(rt.alloc(), 4)?;
     all_fault::<Sv32>(&rt, &mut memory, &SV32_CASES);
     all_fault::<X86>(&rt, &mut memory, &X86_CASES);
     Ok(())
@@ -233,9 +231,7 @@ fn every_reason(rt: HostRuntime) -> Result<(), Fail> {
 /// A root that memory lacks.
 #[test]
 fn no_root(rt: HostRuntime) -> Result<(), Fail> {
-    let memory = Flat {
-        store: vec![in rt.alloc(); 0u32; 4 * 1024]?,
-    };
+    let memory = Flat::zeroed(rt.alloc(), 4)?;
     let access = Access {
         address: ADDRESS,
         kind: Kind::Load,

@@ -51,9 +51,7 @@ fn flat_edges(rt: HostRuntime) -> Result<(), Fail> {
 /// More words than a memory may have frames for.
 #[test]
 fn flat_limit(rt: HostRuntime) -> Result<(), Fail> {
-    let mut memory = Flat {
-        store: vec![in rt.alloc(); 0u32; 4097 * 1024]?,
-    };
+    let mut memory = Flat::zeroed(rt.alloc(), 4097)?;
     assert_eq!(rt; memory.write(4095, 1, 3), Ok(()));
     assert_eq!(rt; memory.read(4095, 1025), Ok(3));
     assert_eq!(rt; memory.write(4096, 1, 3), Err(BEYOND));

@@ -1,9 +1,10 @@
 //! Flat memory.
-ghost use Rattle.std.specs.Prelude.{◌≡◌, true};
+ghost use Rattle.std.specs.Prelude.{◌≡◌, ◌*◌, IfOk, replicate};
 ghost use Rattle.memory.specs.Flat.{ToldWhole, flat, position_of};
 ghost use Rattle.std.proofs.Common.{rules};
 
 use crate::guest::{Cause, FRAME_LIMIT, FRAME_WORDS, Frame, GuestMemory, Word};
+use std::alloc::{AllocError, Global};
 
 /// The cause of a frame that is not whole.
 const NOT_WHOLE: Cause = Cause { number: 1 };
@@ -15,6 +16,14 @@ pub struct Flat {
 }
 
 impl Flat {
+    /// So many frames, with all words 0.
+    pub fn zeroed(heap: Global, frames: Frame) -> Result<Flat, AllocError>
+        ensures { IfOk result (λ memory. memory.store.items ≡ replicate (frames * 1024) 0) }
+    {
+        let store = vec![in heap; 0u32; frames as usize * FRAME_WORDS]?;
+        Ok(Flat { store })
+    }
+
     /// Is the frame whole in the store? Where it is not, its cause is told.
     fn whole(&self, frame: Frame) -> Result<(), Cause>
         ensures { ToldWhole self.now.store.items frame result }

@@ -9,7 +9,6 @@ use policies::hand::Hand;
 use policies::policy::EvictionPolicy;
 use shadow::slots::SlotTable;
 use slot::slots::{Place, Shadow, SyncState, Thing};
-use std::alloc::{AllocError, Global};
 use std::test::Fail;
 use walk::fault::Access;
 
@@ -40,12 +39,6 @@ const USER_LOAD: Access = Access {
     privilege: Privilege::User,
 };
 
-fn memory(heap: Global) -> Result<Flat, AllocError> {
-    Ok(Flat {
-        store: vec![in heap; 0u32; 4 * 1024]?,
-    })
-}
-
 fn two_slots() -> Mmu<Hand> {
     let mut policy = Hand::new();
     policy.start(2);
@@ -58,7 +51,7 @@ fn two_slots() -> Mmu<Hand> {
 /// The root's directory stays when a slot is wanted for a third thing.
 #[test]
 fn takes_and_evicts(rt: HostRuntime) -> Result<(), Fail> {
-    let memory = memory(rt.alloc())?;
+    let memory = Flat::zeroed(rt.alloc(), 4)?;
     let mut mmu = two_slots();
     assert!(rt; mmu.take(&memory, None, Thing::Directory(1)) == SLOT_0);
     assert_eq!(rt; mmu.root_slot(1), 0);
@@ -79,7 +72,7 @@ fn takes_and_evicts(rt: HostRuntime) -> Result<(), Fail> {
 
 #[test]
 fn hits_and_drops(rt: HostRuntime) -> Result<(), Fail> {
-    let memory = memory(rt.alloc())?;
+    let memory = Flat::zeroed(rt.alloc(), 4)?;
     let mut mmu = two_slots();
     mmu.take(&memory, None, Thing::Directory(1));
     assert_eq!(rt; mmu.hit::<Sv32>(LOAD, 1), None);
@@ -97,7 +90,7 @@ fn hits_and_drops(rt: HostRuntime) -> Result<(), Fail> {
 /// A store to the table, then a check that drops what it changed, and a store to the directory.
 #[test]
 fn traces_and_checks(rt: HostRuntime) -> Result<(), Fail> {
-    let mut memory = memory(rt.alloc())?;
+    let mut memory = Flat::zeroed(rt.alloc(), 4)?;
     let mut mmu = two_slots();
     mmu.take(&memory, None, Thing::Directory(1));
     mmu.link(&memory, 1, 5, 0x801, Thing::Table(2));

@@ -17,7 +17,7 @@ mod script;
 mod text;
 
 use memory::flat::Flat;
-use memory::guest::{FRAME_WORDS, GuestMemory};
+use memory::guest::GuestMemory;
 use memory::partition::Partition;
 use paging::format::PageFormat;
 use paging::sv32::Sv32;
@@ -49,9 +49,7 @@ fn play_by<F: PageFormat + Drop, P: EvictionPolicy + Drop>(
     policy: P,
     lines: &[Line],
 ) -> anyhow::Result<()> {
-    let flat = Flat {
-        store: vec![in rt.alloc(); 0u32; setup.frames as usize * FRAME_WORDS]?,
-    };
+    let flat = Flat::zeroed(rt.alloc(), setup.frames)?;
     let Some((first, count)) = setup.part else {
         return play_over::<Flat, F, P>(rt, flat, setup.frames, policy, lines);
     };

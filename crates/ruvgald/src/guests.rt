@@ -2,7 +2,7 @@
 use memory::guest::{Frame, GuestMemory, Word};
 
 /// The frames of the guest's memory.
-pub const FRAMES: usize = 16;
+pub const FRAMES: Frame = 16;
 
 /// The frame of the directory.
 pub const ROOT: Frame = 0;

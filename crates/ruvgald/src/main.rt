@@ -63,16 +63,12 @@ fn show<F: PageFormat, M: GuestMemory>(rt: &HostRuntime, memory: &mut M) -> anyh
 
 /// The same over a flat memory, and over a partition in the middle of a larger one.
 fn both<F: PageFormat>(rt: &HostRuntime, name: &str, words: &Words) -> anyhow::Result<()> {
-    let mut flat = Flat {
-        store: vec![in rt.alloc(); 0u32; 1024 * FRAMES]?,
-    };
+    let mut flat = Flat::zeroed(rt.alloc(), FRAMES)?;
     furnish(&mut flat, words);
     println!(rt; "{name} over a flat memory")?;
     show::<F, Flat>(rt, &mut flat)?;
-    let larger = Flat {
-        store: vec![in rt.alloc(); 0u32; 3 * 1024 * FRAMES]?,
-    };
-    match Partition::new(larger, FRAMES as u32, FRAMES as u32) {
+    let larger = Flat::zeroed(rt.alloc(), 3 * FRAMES)?;
+    match Partition::new(larger, FRAMES, FRAMES) {
         Ok(mut part) => {
             furnish(&mut part, words);
             println!(rt; "{name} over a partition")?;

@@ -1,6 +1,6 @@
 //! Slots that give way. Entry i of the directory in frame 0 names the table in frame i + 1, for i up to 7, and entry 0 of
 //! each table names frame 9. Each list of calls is run twice on one machine, since the policy starts over with each run.
-use crate::scene::{Seen, ZERO, flat, furnish, shown};
+use crate::scene::{Seen, ZERO, furnish, shown};
 use engine::tallies::Tallies;
 use memory::flat::Flat;
 use paging::x86::X86;
@@ -22,7 +22,7 @@ fn check_twice<P: EvictionPolicy + Drop>(
     calls: &[Call],
     figures: Tallies,
 ) -> Result<(), Fail> {
-    let mut machine = Machine::<Flat, X86, P>::new(flat(heap, 10)?, policy);
+    let mut machine = Machine::<Flat, X86, P>::new(Flat::zeroed(heap, 10)?, policy);
     for table in 1..9u32 {
         furnish(
             &mut machine,

@@ -1,6 +1,6 @@
 //! A machine over a part of a memory: five frames from frame 2 on, of a memory of six. Its frame 4 is in the part but has
 //! no words underneath, and its frame 5 is outside the part.
-use crate::scene::{Seen, ZERO, check_run, flat, furnish};
+use crate::scene::{Seen, ZERO, check_run, furnish};
 use engine::tallies::Tallies;
 use memory::flat::Flat;
 use memory::guest::{Frame, Word};
@@ -46,7 +46,7 @@ const FOUR_FAULTS: Tallies = Tallies {
 
 #[test]
 fn causes_are_told_apart(rt: HostRuntime) -> Result<(), Fail> {
-    let Ok(part) = Partition::new(flat(rt.alloc(), 6)?, 2, 5) else {
+    let Ok(part) = Partition::new(Flat::zeroed(rt.alloc(), 6)?, 2, 5) else {
         return Err(Fail::new("the partition was refused"));
     };
     let mut machine = Machine::<Partition<Flat>, X86, Old>::new(part, Old::new());

@@ -1,5 +1,5 @@
 //! Each refusal, and the order in which they are tested. Memory has two frames, all zero, so that every access faults.
-use crate::scene::{HOLE, Seen, ZERO, check_run, flat, furnish, shown};
+use crate::scene::{HOLE, Seen, ZERO, check_run, furnish, shown};
 use engine::tallies::{CALL_LIMIT, Tallies};
 use memory::flat::Flat;
 use memory::guest::GuestMemory;
@@ -18,7 +18,7 @@ use unit::requests::Call;
 use walk::fault::{Depth, Fault};
 
 fn bare(heap: Global) -> Result<Machine<Flat, X86, Hand>, AllocError> {
-    Ok(Machine::new(flat(heap, 2)?, Hand::new()))
+    Ok(Machine::new(Flat::zeroed(heap, 2)?, Hand::new()))
 }
 
 /// The number of a refusal, or 0.

@@ -1,11 +1,10 @@
 //! Machines over small memories, and answers as values that can be compared.
 use engine::tallies::Tallies;
-use memory::flat::Flat;
-use memory::guest::{FRAME_WORDS, Frame, GuestMemory, Word};
+use memory::guest::{Frame, GuestMemory, Word};
 use mmu::exits::Exit;
 use paging::format::{Level, PageFormat, Reason};
 use policies::policy::EvictionPolicy;
-use std::alloc::{AllocError, Global};
+use std::alloc::Global;
 use std::process::Abort;
 use std::test::Fail;
 use unit::machine::Machine;
@@ -64,12 +63,6 @@ pub const HOLE: Fault = Fault {
     code: 0,
     cause: 0,
 };
-
-pub fn flat(heap: Global, frames: usize) -> Result<Flat, AllocError> {
-    Ok(Flat {
-        store: vec![in heap; 0u32; frames.wrapping_mul(FRAME_WORDS)]?,
-    })
-}
 
 /// Pokes words, each given by its frame, its index and itself.
 pub fn furnish<M: GuestMemory, F: PageFormat, P: EvictionPolicy>(

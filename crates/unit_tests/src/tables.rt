@@ -1,5 +1,5 @@
 //! Tables that name themselves, and frames that are directory and table at once.
-use crate::scene::{Seen, check_run, flat, furnish, marks, shown};
+use crate::scene::{Seen, check_run, furnish, marks, shown};
 use engine::tallies::Tallies;
 use memory::flat::Flat;
 use memory::guest::GuestMemory;
@@ -18,7 +18,7 @@ use walk::marking::{Mark, Marks};
 /// A stale hit, lawful until a flush: the table in frame 1 names itself at index 3.
 #[test]
 fn table_that_names_itself(rt: HostRuntime) -> Result<(), Fail> {
-    let mut machine = Machine::<Flat, X86, Hand>::new(flat(rt.alloc(), 4)?, Hand::new());
+    let mut machine = Machine::<Flat, X86, Hand>::new(Flat::zeroed(rt.alloc(), 4)?, Hand::new());
     furnish(
         &mut machine,
         &[(0, 1, 0x1007), (1, 2, 0x2007), (1, 3, 0x1007)],
@@ -56,7 +56,7 @@ fn table_that_names_itself(rt: HostRuntime) -> Result<(), Fail> {
 /// The root's word 0 names the root, so it is the directory's word and the table's at once. A store marks it twice.
 #[test]
 fn one_word_marked_twice(rt: HostRuntime) -> Result<(), Fail> {
-    let mut machine = Machine::<Flat, X86, Hand>::new(flat(rt.alloc(), 1)?, Hand::new());
+    let mut machine = Machine::<Flat, X86, Hand>::new(Flat::zeroed(rt.alloc(), 1)?, Hand::new());
     furnish(&mut machine, &[(0, 0, 7)])?;
     assert!(rt; machine.open(0, 2).is_ok());
     let reply = settled::store(&mut machine, 8, 5, Settlement::Deliver);
@@ -86,7 +86,7 @@ fn one_word_marked_twice(rt: HostRuntime) -> Result<(), Fail> {
 /// A load marks such a word once, as the directory's.
 #[test]
 fn one_word_marked_once(rt: HostRuntime) -> Result<(), Fail> {
-    let mut machine = Machine::<Flat, X86, Hand>::new(flat(rt.alloc(), 1)?, Hand::new());
+    let mut machine = Machine::<Flat, X86, Hand>::new(Flat::zeroed(rt.alloc(), 1)?, Hand::new());
     furnish(&mut machine, &[(0, 0, 7)])?;
     assert!(rt; machine.open(0, 8).is_ok());
     let reply = settled::fetch(&mut machine, 0, Settlement::Deliver);
@@ -116,7 +116,7 @@ fn one_word_marked_once(rt: HostRuntime) -> Result<(), Fail> {
 /// A store to a frame that is directory and table empties the place of its word in both.
 #[test]
 fn directory_and_table(rt: HostRuntime) -> Result<(), Fail> {
-    let mut machine = Machine::<Flat, X86, Hand>::new(flat(rt.alloc(), 4)?, Hand::new());
+    let mut machine = Machine::<Flat, X86, Hand>::new(Flat::zeroed(rt.alloc(), 4)?, Hand::new());
     furnish(
         &mut machine,
         &[
@@ -151,7 +151,7 @@ fn directory_and_table(rt: HostRuntime) -> Result<(), Fail> {
 /// In Sv32 the root's word 0 names the root as a table, and word 1 is a page there and a large page in the directory.
 #[test]
 fn sv32_root_as_table(rt: HostRuntime) -> Result<(), Fail> {
-    let mut machine = Machine::<Flat, Sv32, Hand>::new(flat(rt.alloc(), 2)?, Hand::new());
+    let mut machine = Machine::<Flat, Sv32, Hand>::new(Flat::zeroed(rt.alloc(), 2)?, Hand::new());
     furnish(&mut machine, &[(0, 0, 1), (0, 1, 7)])?;
     let pointer = Fault {
         address: 0,

@@ -5,7 +5,7 @@ ghost use Rattle.unit.specs.Faults.{Waits};
 ghost use Rattle.unit.specs.Promises.{view};
 ghost use Rattle.unit.specs.Replies.{answer_reply};
 
-use crate::scene::{Seen, ZERO, flat, furnish, shown};
+use crate::scene::{Seen, ZERO, furnish, shown};
 use engine::engine::FaultRecord;
 use engine::tallies::Tallies;
 use memory::flat::Flat;
@@ -26,7 +26,7 @@ use unit::requests::Reply;
 use unit::tokens::RunningToken;
 
 fn furnished(heap: Global) -> Result<Machine<Flat, X86, Hand>, Fail> {
-    let mut machine = Machine::<Flat, X86, Hand>::new(flat(heap, 2)?, Hand::new());
+    let mut machine = Machine::<Flat, X86, Hand>::new(Flat::zeroed(heap, 2)?, Hand::new());
     furnish(&mut machine, &[(0, 0, 0x1003), (1, 0, 0x1003)])?;
     Ok(machine)
 }

@@ -17,7 +17,7 @@ use unit::machine::Machine;
 use unit::requests::{Call, RunError};
 
 /// The frames of each guest's memory.
-const FRAMES: usize = 4;
+const FRAMES: Frame = 4;
 
 /// The root of every run.
 const ROOT: Frame = 0;
@@ -30,9 +30,7 @@ fn show<F: PageFormat, P: EvictionPolicy + Drop>(
     words: &[(Frame, u32, Word)],
     calls: &[Call],
 ) -> anyhow::Result<()> {
-    let flat = Flat {
-        store: vec![in rt.alloc(); 0u32; 1024 * FRAMES]?,
-    };
+    let flat = Flat::zeroed(rt.alloc(), FRAMES)?;
     let mut machine: Machine<Flat, F, P> = Machine::new(flat, policy);
     for (frame, index, word) in words {
         if let Err(refusal) = machine.poke(*frame, *index, *word) {
