@@ -1,4 +1,5 @@
 //! Every reason at every level, in both formats.
+use crate::scene::flat;
 use memory::flat::Flat;
 use memory::guest::{Frame, GuestMemory, Word};
 use paging::access::{Address, Kind, Privilege};
@@ -198,9 +199,10 @@ fn all_fault<F: PageFormat>(rt: &impl Abort, memory: &mut Flat, cases: &[Case]) 
     for (directory, table, (kind, privilege), reason, (depth, frame, index), code) in cases {
         assert_eq!(rt; memory.write(0, 3, *directory), Ok(()));
         assert_eq!(rt; memory.write(1, 5, *table), Ok(()));
-        let cause = match *reason {
-            Reason::Outside => 1,
-            _ => 0,
+        let cause = if matches!(*reason, Reason::Outside) {
+            1
+        } else {
+            0
         };
         let fault = Fault {
             address: ADDRESS,
@@ -222,9 +224,7 @@ fn all_fault<F: PageFormat>(rt: &impl Abort, memory: &mut Flat, cases: &[Case]) 
 
 #[test]
 fn every_reason(rt: HostRuntime) -> Result<(), Fail> {
-    let mut memory = Flat {
-        store: vec![in rt.alloc(); 0u32; 4 * 1024]?,
-    };
+    let mut memory = flat(rt.alloc(), 4 * 1024)?;
     all_fault::<Sv32>(&rt, &mut memory, &SV32_CASES);
     all_fault::<X86>(&rt, &mut memory, &X86_CASES);
     Ok(())
@@ -233,9 +233,7 @@ fn every_reason(rt: HostRuntime) -> Result<(), Fail> {
 /// A root that memory lacks.
 #[test]
 fn no_root(rt: HostRuntime) -> Result<(), Fail> {
-    let memory = Flat {
-        store: vec![in rt.alloc(); 0u32; 4 * 1024]?,
-    };
+    let memory = flat(rt.alloc(), 4 * 1024)?;
     let access = Access {
         address: ADDRESS,
         kind: Kind::Load,

@@ -11,3 +11,5 @@ mod marks;
 mod memories;
 #[cfg(test)]
 mod rights;
+#[cfg(test)]
+mod scene;

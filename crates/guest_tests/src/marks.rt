@@ -1,21 +1,15 @@
 //! Walks that arrive, and the marks that they leave.
+use crate::scene::flat;
 use memory::flat::Flat;
 use memory::guest::GuestMemory;
 use paging::access::{Address, Kind, Privilege};
 use paging::format::PageFormat;
 use paging::sv32::Sv32;
 use paging::x86::X86;
-use std::alloc::{AllocError, Global};
 use std::test::Fail;
 use walk::fault::Access;
 use walk::marking::{Mark, Marks, mark_entries};
 use walk::walking::walk;
-
-fn four(heap: Global) -> Result<Flat, AllocError> {
-    Ok(Flat {
-        store: vec![in heap; 0u32; 4 * 1024]?,
-    })
-}
 
 /// The frame that a supervisor's access from root 0 reaches, and the marks that it leaves.
 fn go<F: PageFormat>(
@@ -23,24 +17,19 @@ fn go<F: PageFormat>(
     address: Address,
     kind: Kind,
 ) -> Result<(u32, Marks), Fail> {
-    match walk::<F, Flat>(
-        memory,
-        0,
-        Access {
-            address,
-            kind,
-            privilege: Privilege::Supervisor,
-        },
-    ) {
-        Ok(walked) => Ok((walked.target, mark_entries::<F, Flat>(memory, kind, walked))),
-        Err(_) => Err(Fail::new("fault")),
-    }
+    let access = Access {
+        address,
+        kind,
+        privilege: Privilege::Supervisor,
+    };
+    let walked = walk::<F, Flat>(memory, 0, access)?;
+    Ok((walked.target, mark_entries::<F, Flat>(memory, kind, walked)))
 }
 
 /// A directory that is its own table: one word is marked as the directory's, and then as the table's.
 #[test]
 fn one_word_twice(rt: HostRuntime) -> Result<(), Fail> {
-    let mut memory = four(rt.alloc())?;
+    let mut memory = flat(rt.alloc(), 4 * 1024)?;
     assert_eq!(rt; memory.write(0, 1023, 0x3), Ok(()));
     let (target, marks) = go::<X86>(&mut memory, 0xffff_f010, Kind::Store)?;
     assert_eq!(rt; target, 0);
@@ -78,7 +67,7 @@ fn one_word_twice(rt: HostRuntime) -> Result<(), Fail> {
 /// Marks are left once, and a store adds its own.
 #[test]
 fn marks_once(rt: HostRuntime) -> Result<(), Fail> {
-    let mut memory = four(rt.alloc())?;
+    let mut memory = flat(rt.alloc(), 4 * 1024)?;
     assert_eq!(rt; memory.write(0, 1, 0x401), Ok(()));
     assert_eq!(rt; memory.write(1, 2, 0x807), Ok(()));
     let (target, marks) = go::<Sv32>(&mut memory, 0x0040_2000, Kind::Load)?;
@@ -122,7 +111,7 @@ fn marks_once(rt: HostRuntime) -> Result<(), Fail> {
 /// A large page: the table index picks the frame, and the directory's word is the one that is marked.
 #[test]
 fn large_page(rt: HostRuntime) -> Result<(), Fail> {
-    let mut memory = four(rt.alloc())?;
+    let mut memory = flat(rt.alloc(), 4 * 1024)?;
     assert_eq!(rt; memory.write(0, 2, 0x83), Ok(()));
     let (target, marks) = go::<X86>(&mut memory, 0x0080_3004, Kind::Store)?;
     assert_eq!(rt; target, 3);
