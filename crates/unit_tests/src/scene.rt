@@ -14,6 +14,7 @@ use walk::fault::{Depth, Fault};
 use walk::marking::Marks;
 
 /// What is looked at in an answer.
+// A type of its own, since most tests leave out the marks that a `Reply` has.
 #[derive(Clone, Copy, PartialEq, Eq, Debug)]
 pub enum Seen {
     Refused(u8),
