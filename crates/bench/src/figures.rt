@@ -4,7 +4,7 @@ use memory::guest::Word;
 use std::fmt;
 
 /// The figures of several runs together, and the sum of the words that were read, modulo 2^32.
-#[derive(Clone, Copy, Drop)]
+#[derive(Clone, Copy, Default)]
 pub struct Figures {
     calls: u64,
     hits: u64,
@@ -18,21 +18,6 @@ pub struct Figures {
 }
 
 impl Figures {
-    /// No run yet.
-    pub fn new() -> Figures {
-        Figures {
-            calls: 0,
-            hits: 0,
-            hidden: 0,
-            true_exits: 0,
-            trace: 0,
-            flush: 0,
-            switch: 0,
-            evictions: 0,
-            sum: 0,
-        }
-    }
-
     /// Adds a run.
     pub fn add(&mut self, run: Tallies, sum: Word) {
         self.calls = self.calls.wrapping_add(run.calls as u64);
@@ -49,19 +34,21 @@ impl Figures {
 
 impl fmt::Display for Figures {
     fn fmt<W: fmt::Write>(&self, f: &mut fmt::Formatter<W>) -> fmt::Result {
-        let calls = self.calls;
-        let hits = self.hits;
-        let hidden = self.hidden;
-        let faults = self.true_exits;
-        let trace = self.trace;
+        let Figures {
+            calls,
+            hits,
+            hidden,
+            true_exits,
+            trace,
+            flush,
+            switch,
+            evictions,
+            sum,
+        } = self;
         write!(
             f,
-            "calls {calls} hits {hits} hidden {hidden} true {faults} trace {trace}"
+            "calls {calls} hits {hits} hidden {hidden} true {true_exits} trace {trace}"
         )?;
-        let flush = self.flush;
-        let switch = self.switch;
-        let evictions = self.evictions;
-        let sum = self.sum;
         write!(
             f,
             " flush {flush} switch {switch} evictions {evictions} sum {sum:08x}"

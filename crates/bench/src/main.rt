@@ -5,16 +5,19 @@ mod figures;
 mod guest;
 mod workloads;
 
-use anyhow::anyhow;
+use anyhow::Context;
 use figures::Figures;
 use guest::guest_memory;
-use paging::x86::X86;
+use memory::flat::Flat;
 use policies::hand::Hand;
 use policies::old::Old;
 use policies::policy::EvictionPolicy;
 use std::env;
+use std::env::Args;
+use std::iter::Skip;
+use std::str::FromStr;
 use unit::machine::Machine;
-use workloads::{Guest, Trouble, Workload, in_runs};
+use workloads::{Trouble, Workload, in_runs};
 
 /// What the command line asks for.
 #[derive(Drop)]
@@ -28,77 +31,56 @@ struct Asked {
     times: u32,
 }
 
+/// The next argument, read as what is wanted there.
+fn next<T: FromStr>(arguments: &mut Skip<Args>) -> Result<Option<T>, T::Err> {
+    arguments.next().map(|text| text.parse()).transpose()
+}
+
 fn command_line(rt: &HostRuntime) -> anyhow::Result<Asked> {
     let mut arguments = env::args(rt)?.skip(1);
-    let rounds = match arguments.next() {
-        Some(text) => text.parse::<u32>()?,
-        None => return Err(anyhow!("usage: bench ROUNDS [a|b|c|d|e [SLOTS [TIMES]]]")),
-    };
-    let only = match arguments.next() {
-        Some(text) => match Workload::by_letter(text.as_str()) {
-            Some(workload) => Some(workload),
-            None => return Err(anyhow!("the workloads are a, b, c, d and e")),
-        },
-        None => None,
-    };
-    let slots = match arguments.next() {
-        Some(text) => Some(text.parse::<usize>()?),
-        None => None,
-    };
-    let times = match arguments.next() {
-        Some(text) => text.parse::<u32>()?,
-        None => 1,
-    };
     Ok(Asked {
-        rounds,
-        only,
-        slots,
-        times,
+        rounds: next(&mut arguments)?.context("usage: bench ROUNDS [a|b|c|d|e [SLOTS [TIMES]]]")?,
+        only: next(&mut arguments)?,
+        slots: next(&mut arguments)?,
+        times: next(&mut arguments)?.unwrap_or(1),
     })
 }
 
-/// The figures of one workload on a machine, as often as is asked for.
-fn repeated<P: EvictionPolicy>(
-    machine: &mut Guest<P>,
+/// The figures of one workload on a machine of its own, as often as is asked for.
+fn repeated<P: EvictionPolicy + Drop>(
+    memory: Flat,
+    policy: P,
     workload: Workload,
-    slots: usize,
     asked: &Asked,
 ) -> Result<Figures, Trouble> {
-    let mut figures = Figures::new();
+    let mut machine = Machine::new(memory, policy);
+    let slots = asked.slots.unwrap_or(workload.slots());
+    let mut figures = Figures::default();
     for _ in 0..asked.times {
-        in_runs(machine, workload, slots, asked.rounds, &mut figures)?;
+        in_runs(&mut machine, workload, slots, asked.rounds, &mut figures)?;
     }
     Ok(figures)
 }
 
-/// The figures of one workload, on a machine of its own.
+/// The figures of one workload, by the policy that it is meant for.
 fn measured(rt: &HostRuntime, workload: Workload, asked: &Asked) -> anyhow::Result<Figures> {
     let memory = guest_memory(rt.alloc())?;
-    let slots = asked.slots.unwrap_or(workload.slots());
-    let measured = match workload {
-        Workload::Switches => {
-            let mut machine = Machine::<_, X86, Old>::new(memory, Old::new());
-            repeated(&mut machine, workload, slots, asked)
-        }
+    let figures = match workload {
+        Workload::Switches => repeated(memory, Old::new(), workload, asked),
         Workload::Hits | Workload::Misses | Workload::Edits | Workload::Guards => {
-            let mut machine = Machine::<_, X86, Hand>::new(memory, Hand::new());
-            repeated(&mut machine, workload, slots, asked)
+            repeated(memory, Hand::new(), workload, asked)
         }
     };
-    Ok(measured?)
+    Ok(figures?)
 }
 
 fn main(rt: HostRuntime) -> anyhow::Result<()> {
     let asked = command_line(&rt)?;
-    for workload in workloads::ALL.iter() {
-        if let Some(only) = asked.only
-            && only != *workload
-        {
-            continue;
+    for workload in workloads::ALL {
+        if asked.only.is_none_or(|only| only == workload) {
+            let figures = measured(&rt, workload, &asked)?;
+            println!(rt; "{workload} {figures}")?;
         }
-        let figures = measured(&rt, *workload, &asked)?;
-        let letter = workload.letter();
-        println!(rt; "{letter} {figures}")?;
     }
     Ok(())
 }

@@ -14,8 +14,9 @@ use paging::format::PageFormat;
 use paging::x86::X86;
 use policies::policy::EvictionPolicy;
 use settled::{Settlement, settle};
-use std::error::Error;
-use std::fmt;
+use std::str::FromStr;
+use std::{array, fmt};
+use thiserror::Error;
 use unit::answers::Answer;
 use unit::machine::Machine;
 
@@ -42,35 +43,39 @@ pub const ALL: [Workload; 5] = [
 ];
 
 /// Why a workload was not carried out.
-#[derive(Debug, Drop)]
+#[derive(Debug, Drop, Error)]
 pub enum Trouble {
-    Refused(Refusal),
+    #[error("refused {0}")]
+    Refused(#[from] Refusal),
     /// An access to the address faulted. The fault is given up.
+    #[error("fault at {0:08x}")]
     Faulted(Address),
 }
 
-impl Error for Trouble {}
+/// A text that is no workload's letter.
+#[derive(Clone, Copy, Debug, Error)]
+#[error("the workloads are a, b, c, d and e")]
+pub struct UnknownWorkload;
 
-impl fmt::Display for Trouble {
+impl fmt::Display for Workload {
     fn fmt<W: fmt::Write>(&self, f: &mut fmt::Formatter<W>) -> fmt::Result {
-        match self {
-            Trouble::Refused(refusal) => {
-                let number = refusal.number();
-                write!(f, "refused {number}")
-            }
-            Trouble::Faulted(address) => write!(f, "fault at {address:08x}"),
-        }
+        f.write_str(self.letter())
     }
 }
 
-impl From<Refusal> for Trouble {
-    fn from(refusal: Refusal) -> Trouble {
-        Trouble::Refused(refusal)
+impl FromStr for Workload {
+    type Err = UnknownWorkload;
+
+    fn from_str(text: &str) -> Result<Workload, UnknownWorkload> {
+        ALL.iter()
+            .copied()
+            .find(|workload| workload.letter() == text)
+            .ok_or(UnknownWorkload)
     }
 }
 
 impl Workload {
-    pub fn letter(self) -> &'static str {
+    fn letter(self) -> &'static str {
         match self {
             Workload::Hits => "a",
             Workload::Misses => "b",
@@ -78,15 +83,6 @@ impl Workload {
             Workload::Switches => "d",
             Workload::Guards => "e",
         }
-    }
-
-    pub fn by_letter(letter: &str) -> Option<Workload> {
-        for workload in ALL.iter() {
-            if workload.letter() == letter {
-                return Some(*workload);
-            }
-        }
-        None
     }
 
     /// The slots that the workload is meant for.
@@ -147,11 +143,30 @@ fn store<P: EvictionPolicy>(
 
 /// The addresses of all pages, dealt out to so many tables.
 fn dealt(tables: u32) -> [Address; 64] {
-    let mut addresses = [0; 64];
-    for page in 0..PAGES {
-        addresses[page as usize] = page_address(page % tables.max(1), page) | page << 6;
+    array::from_fn(|page| page_address(page as u32 % tables.max(1), page as u32)
+        | (page as u32) << 6)
+}
+
+/// Stores to each address that was dealt, and then takes a step at each in every round. Adds up the words that come of it.
+fn over_dealt<P: EvictionPolicy, F: FnMut(&mut Guest<P>, Address, u32) -> Result<Word, Trouble>>(
+    machine: &mut Guest<P>,
+    tables: u32,
+    rounds: u32,
+    mut step: F,
+) -> Result<Word, Trouble>
+    requires { F.IsAlwaysCallable step }
+{
+    let addresses = dealt(tables);
+    let mut sum: Word = 0;
+    for address in addresses {
+        store(machine, address, 1)?;
     }
-    addresses
+    for round in 0..rounds {
+        for address in addresses {
+            sum = sum.wrapping_add(step(machine, address, round)?);
+        }
+    }
+    Ok(sum)
 }
 
 fn hits<P: EvictionPolicy>(
@@ -159,18 +174,11 @@ fn hits<P: EvictionPolicy>(
     tables: u32,
     rounds: u32,
 ) -> Result<Word, Trouble> {
-    let addresses = dealt(tables);
-    let mut sum: Word = 0;
-    for address in addresses.iter() {
-        store(machine, *address, 1)?;
-    }
-    for round in 0..rounds {
-        for address in addresses.iter() {
-            sum = sum.wrapping_add(load(machine, *address)?);
-            store(machine, *address, round)?;
-        }
-    }
-    Ok(sum)
+    over_dealt(machine, tables, rounds, |machine, address, round| {
+        let word = load(machine, address)?;
+        store(machine, address, round)?;
+        Ok(word)
+    })
 }
 
 fn misses<P: EvictionPolicy>(
@@ -178,22 +186,14 @@ fn misses<P: EvictionPolicy>(
     tables: u32,
     rounds: u32,
 ) -> Result<Word, Trouble> {
-    let addresses = dealt(tables);
-    let mut sum: Word = 0;
-    for address in addresses.iter() {
-        store(machine, *address, 1)?;
-    }
-    for round in 0..rounds {
-        for address in addresses.iter() {
-            machine.flush_page(*address)?;
-            if round % 2 == 0 {
-                sum = sum.wrapping_add(load(machine, *address)?);
-            } else {
-                store(machine, *address, round)?;
-            }
+    over_dealt(machine, tables, rounds, |machine, address, round| {
+        machine.flush_page(address)?;
+        if round % 2 == 0 {
+            return load(machine, address);
         }
-    }
-    Ok(sum)
+        store(machine, address, round)?;
+        Ok(0)
+    })
 }
 
 fn edits<P: EvictionPolicy>(
@@ -268,6 +268,7 @@ fn one_run<P: EvictionPolicy>(
 ) -> Result<(), Trouble> {
     let token = machine.open(0, slots)?;
     let tables = slots.saturating_sub(1).min(7) as u32;
+    // Each step calls a machine of any policy, which a table of functions could not hold without naming it.
     let sum = match workload {
         Workload::Hits => hits(machine, tables, rounds)?,
         Workload::Misses => misses(machine, tables, rounds)?,
@@ -275,10 +276,8 @@ fn one_run<P: EvictionPolicy>(
         Workload::Switches => switches(machine, rounds)?,
         Workload::Guards => guards(machine, tables, rounds)?,
     };
-    match machine.close(token) {
-        Ok(closed) => figures.add(closed.report(), sum),
-        Err(still) => return Err(Trouble::Refused(still.refusal)),
-    }
+    let closed = machine.close(token).map_err(|still| still.refusal)?;
+    figures.add(closed.report(), sum);
     Ok(())
 }
 

@@ -16,18 +16,13 @@ fn go<F: PageFormat>(
     address: Address,
     kind: Kind,
 ) -> Result<(u32, Marks), Fail> {
-    match walk::<F, Flat>(
-        memory,
-        0,
-        Access {
-            address,
-            kind,
-            privilege: Privilege::Supervisor,
-        },
-    ) {
-        Ok(walked) => Ok((walked.target, mark_entries::<F, Flat>(memory, kind, walked))),
-        Err(_) => Err(Fail::new("fault")),
-    }
+    let access = Access {
+        address,
+        kind,
+        privilege: Privilege::Supervisor,
+    };
+    let walked = walk::<F, Flat>(memory, 0, access)?;
+    Ok((walked.target, mark_entries::<F, Flat>(memory, kind, walked)))
 }
 
 /// A directory that is its own table: one word is marked as the directory's, and then as the table's.

@@ -2,7 +2,6 @@
 use memory::flat::Flat;
 use memory::guest::{Cause, Frame, GuestMemory, Word};
 use memory::partition::Partition;
-use memory::refusal::Refused;
 use std::alloc::{AllocError, Global};
 use std::process::Abort;
 use std::test::Fail;
@@ -59,43 +58,25 @@ fn flat_limit(rt: HostRuntime) -> Result<(), Fail> {
     Ok(())
 }
 
-fn numbered(made: Result<Partition<Flat>, Refused<Flat>>) -> u8 {
-    match made {
-        Ok(_) => 0,
-        Err(refused) => refused.refusal.number(),
-    }
-}
-
-/// A first frame, a count, and the number of the refusal or 0.
-const RANGES: [(Frame, Frame, u8); 8] = [
-    (0, 0, 9),
-    (4096, 0, 9),
-    (0, 4097, 9),
-    (4096, 1, 9),
-    (0xffff_ffff, 2, 9),
-    (2, 0xffff_ffff, 9),
-    (0, 4096, 0),
-    (4095, 1, 0),
+/// A first frame, a count, and the number of the refusal, if it is one.
+const RANGES: [(Frame, Frame, Option<u8>); 8] = [
+    (0, 0, Some(9)),
+    (4096, 0, Some(9)),
+    (0, 4097, Some(9)),
+    (4096, 1, Some(9)),
+    (0xffff_ffff, 2, Some(9)),
+    (2, 0xffff_ffff, Some(9)),
+    (0, 4096, None),
+    (4095, 1, None),
 ];
 
 #[test]
 fn partition_range(rt: HostRuntime) -> Result<(), Fail> {
-    for (first, count, number) in RANGES.iter() {
-        assert_eq!(rt;
-            numbered(Partition::new(four(rt.alloc())?, *first, *count)),
-            *number
-        );
+    for (first, count, number) in RANGES {
+        let made = Partition::new(four(rt.alloc())?, first, count);
+        assert_eq!(rt; made.err().map(|refused| u8::from(refused.refusal)), number);
     }
     Ok(())
-}
-
-fn built<M: GuestMemory + Drop>(
-    made: Result<Partition<M>, Refused<M>>,
-) -> Result<Partition<M>, Fail> {
-    match made {
-        Ok(part) => Ok(part),
-        Err(_) => Err(Fail::new("refused")),
-    }
 }
 
 const OUTER_READS: [Read; 3] = [(1, 8, Ok(5)), (2, 8, Err(BEYOND)), (5, 8, Err(OUTSIDE))];
@@ -110,11 +91,11 @@ const INNER_READS: [Read; 4] = [
 /// A partition of a partition: each cause is that of the memory which lacks the frame.
 #[test]
 fn partition_of_partition(rt: HostRuntime) -> Result<(), Fail> {
-    let mut flat = four(rt.alloc())?;
-    assert_eq!(rt; flat.write(3, 8, 5), Ok(()));
-    let part = built(Partition::new(flat, 2, 5))?;
+    let mut whole = four(rt.alloc())?;
+    assert_eq!(rt; whole.write(3, 8, 5), Ok(()));
+    let part = Partition::new(whole, 2, 5).map_err(|_| Fail::new("refused"))?;
     all_answer(&rt, &part, &OUTER_READS);
-    let mut inner = built(Partition::new(part, 1, 7))?;
+    let mut inner = Partition::new(part, 1, 7).map_err(|_| Fail::new("refused"))?;
     assert_eq!(rt; inner.read(0, 8), Ok(5));
     assert_eq!(rt; inner.write(0, 1032, 6), Ok(()));
     assert_eq!(rt; inner.write(1, 0, 1), Err(BEYOND));
@@ -125,13 +106,11 @@ fn partition_of_partition(rt: HostRuntime) -> Result<(), Fail> {
 /// A refused partition hands its memory back as it was.
 #[test]
 fn refused_memory_back(rt: HostRuntime) -> Result<(), Fail> {
-    let mut flat = four(rt.alloc())?;
-    assert_eq!(rt; flat.write(1, 1, 4), Ok(()));
-    match Partition::new(flat, 1, 4096) {
-        Ok(_) => Err(Fail::new("accepted")),
-        Err(refused) => {
-            assert_eq!(rt; refused.memory.read(1, 1), Ok(4));
-            Ok(())
-        },
-    }
+    let mut whole = four(rt.alloc())?;
+    assert_eq!(rt; whole.write(1, 1, 4), Ok(()));
+    let Err(refused) = Partition::new(whole, 1, 4096) else {
+        return Err(Fail::new("accepted"));
+    };
+    assert_eq!(rt; refused.memory.read(1, 1), Ok(4));
+    Ok(())
 }

@@ -1,6 +1,9 @@
 //! Refusals.
-ghost use Rattle.std.specs.Prelude.{◌≡◌};
+ghost use Rattle.std.specs.Prelude.{◌≡◌, Some, decimal};
 ghost use Rattle.memory.specs.Numbers.{refusal_number};
+
+use std::error::Error;
+use std::fmt;
 
 /// Why something was refused.
 #[derive(Clone, Copy, PartialEq, Eq, Debug)]
@@ -27,12 +30,12 @@ pub enum Refusal {
     OtherFault,
 }
 
-impl Refusal {
-    /// The number that users know the refusal by.
-    pub fn number(self) -> u8
-        ensures { result ≡ refusal_number self }
-    {
-        match self {
+/// The number that users know a refusal by.
+impl From<Refusal> for u8 {
+    ghost from_gives = { λ r n. n ≡ refusal_number r };
+
+    fn from(refusal: Refusal) -> u8 {
+        match refusal {
             Refusal::RunOpen => 1,
             Refusal::NoRun => 2,
             Refusal::NoWords => 3,
@@ -46,6 +49,17 @@ impl Refusal {
         }
     }
 }
+
+/// A refusal is printed as its number.
+impl fmt::Display for Refusal {
+    ghost output = { λ r. Some (decimal (refusal_number r)) };
+
+    fn fmt<W: fmt::Write>(&self, f: &mut fmt::Formatter<W>) -> fmt::Result {
+        write!(f, "{}", u8::from(*self))
+    }
+}
+
+impl Error for Refusal {}
 
 /// A refusal, with the memory that was handed in.
 #[derive(Drop)]

@@ -1,4 +1,8 @@
 //! Exits.
+ghost use Rattle.std.specs.Prelude.{Some};
+ghost use Rattle.mmu.specs.Names.{exit_name};
+
+use std::fmt;
 
 /// Why the guest was interrupted for a call, if it was.
 #[derive(Clone, Copy, PartialEq, Eq, Debug)]
@@ -15,4 +19,19 @@ pub enum Exit {
     Flush,
     /// The guest changed its root.
     Switch,
+}
+
+impl fmt::Display for Exit {
+    ghost output = { λ x. Some (exit_name x) };
+
+    fn fmt<W: fmt::Write>(&self, f: &mut fmt::Formatter<W>) -> fmt::Result {
+        f.write_str(match self {
+            Exit::None => "none",
+            Exit::Hidden => "hidden",
+            Exit::True => "true",
+            Exit::Trace => "trace",
+            Exit::Flush => "flush",
+            Exit::Switch => "switch",
+        })
+    }
 }

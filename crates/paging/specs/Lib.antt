@@ -2,6 +2,7 @@
 pub mod Bits
 pub mod Entries
 pub mod Formats
+pub mod Names
 pub mod Numbers
 pub mod Sv32
 pub mod Terms

@@ -1,10 +1,14 @@
 //! What a page format answers.
-ghost use Rattle.std.specs.Prelude.{◌≡◌};
+ghost use Rattle.std.specs.Prelude.{◌≡◌, ◌≢◌, MatchResult, Some};
 ghost use Rattle.paging.specs.Formats.{EntriesMarked, Format, FramesBounded, MarkedOnce, MarksLast, PagesAligned, ReadingKept, RightsKept, TablesAbove};
+ghost use Rattle.paging.specs.Names.{level_name, reason_name};
 ghost use Rattle.paging.specs.Numbers.{kind_number, level_number, privilege_number, reading, reason_number};
+ghost use Rattle.paging.specs.declared.format.Reason.{Reason};
 
 use crate::access::{Kind, Privilege};
 use memory::guest::{Frame, Word};
+use std::error::Error;
+use std::fmt;
 
 /// The level at which a word is read.
 #[derive(Clone, Copy, PartialEq, Eq, Debug)]
@@ -32,6 +36,70 @@ pub enum Reason {
     Denied,
     Outside,
 }
+
+/// A number that is no reason's.
+#[derive(Clone, Copy, PartialEq, Eq, Debug)]
+pub struct UnknownReason(pub u32);
+
+/// How far a level is above the target.
+impl From<Level> for u32 {
+    ghost from_gives = { λ l n. n ≡ level_number l };
+
+    fn from(level: Level) -> u32 {
+        match level {
+            Level::Directory => 2,
+            Level::Table => 1,
+        }
+    }
+}
+
+impl fmt::Display for Level {
+    ghost output = { λ l. Some (level_name l) };
+
+    fn fmt<W: fmt::Write>(&self, f: &mut fmt::Formatter<W>) -> fmt::Result {
+        f.write_str(match self {
+            Level::Directory => "directory",
+            Level::Table => "table",
+        })
+    }
+}
+
+impl TryFrom<u32> for Reason {
+    type Error = UnknownReason;
+
+    ghost try_from_gives = { λ n r. MatchResult r (λ reason. reason_number reason ≡ n) (λ e. (e.0 ≡ n) × ((reason : Reason) → reason_number reason ≢ n)) };
+
+    fn try_from(number: u32) -> Result<Reason, UnknownReason> {
+        match number {
+            1 => Ok(Reason::Absent),
+            2 => Ok(Reason::Malformed),
+            3 => Ok(Reason::Denied),
+            4 => Ok(Reason::Outside),
+            _ => Err(UnknownReason(number)),
+        }
+    }
+}
+
+impl fmt::Display for Reason {
+    ghost output = { λ r. Some (reason_name r) };
+
+    fn fmt<W: fmt::Write>(&self, f: &mut fmt::Formatter<W>) -> fmt::Result {
+        f.write_str(match self {
+            Reason::Absent => "absent",
+            Reason::Malformed => "malformed",
+            Reason::Denied => "denied",
+            Reason::Outside => "outside",
+        })
+    }
+}
+
+impl fmt::Display for UnknownReason {
+    fn fmt<W: fmt::Write>(&self, f: &mut fmt::Formatter<W>) -> fmt::Result {
+        write!(f, "no reason has number {}", self.0)
+    }
+}
+
+impl Error for UnknownReason {}
 
 /// A page format. Its answers depend on nothing but what is asked.
 pub trait PageFormat {

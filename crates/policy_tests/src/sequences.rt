@@ -4,6 +4,7 @@ ghost use Rattle.std.specs.Prelude.{◌<◌};
 use policies::hand::Hand;
 use policies::old::Old;
 use policies::policy::{EvictionPolicy, SlotNumber};
+use std::array;
 use std::process::Abort;
 
 /// Numbers that look random, below 2^16.
@@ -29,22 +30,13 @@ impl Random {
 
     fn permitted(&mut self) -> [bool; 8] {
         let bits = self.draw();
-        let mut permitted = [false; 8];
-        for slot in 0..8 {
-            permitted[slot] = (bits >> slot) % 2 == 1;
-        }
-        permitted
+        array::from_fn(|slot| (bits >> slot) % 2 == 1)
     }
 }
 
 /// The lowest permitted slot of those from one on.
 fn lowest(permitted: &[bool; 8], from: SlotNumber, count: usize) -> Option<SlotNumber> {
-    for slot in 0..8 {
-        if from <= slot && slot < count && permitted[slot] {
-            return Some(slot);
-        }
-    }
-    None
+    (from..count.min(8)).find(|slot| permitted[*slot])
 }
 
 /// A hand: the lowest permitted slot that it has not passed, or else the lowest of all.
@@ -65,15 +57,10 @@ fn hand_agrees(rt: &impl Abort, count: usize, random: &mut Random) {
 
 /// The permitted slot that was told of the longest ago.
 fn oldest(stamps: &[u32; 8], permitted: &[bool; 8], count: usize) -> SlotNumber {
-    let mut slot = 0;
-    let mut least = u32::MAX;
-    for other in 0..8 {
-        if other < count && permitted[other] && stamps[other] < least {
-            slot = other;
-            least = stamps[other];
-        }
-    }
-    slot
+    (0..count.min(8))
+        .filter(|slot| permitted[*slot])
+        .min_by_key(|slot| stamps[*slot])
+        .unwrap_or(0)
 }
 
 /// The oldest: each slot has the time at which it was told of last, and its number at the start.

@@ -56,8 +56,7 @@ fn play_by<F: PageFormat + Drop, P: EvictionPolicy + Drop>(
     match Partition::new(flat, first, count) {
         Ok(part) => play_over::<Partition<Flat>, F, P>(rt, part, count, policy, lines),
         Err(refused) => {
-            let number = refused.refusal.number();
-            println!(rt; "refused {number}")?;
+            println!(rt; "refused {}", refused.refusal)?;
             Ok(())
         }
     }

@@ -132,17 +132,13 @@ impl<M: GuestMemory + Drop, F: PageFormat + Drop, P: EvictionPolicy + Drop> Repl
 
     /// Each word times its position, counted from 1, added up modulo 2 to the 32. A frame without words counts nothing.
     fn sum(&self) -> u32 {
-        let mut sum = 0u32;
-        let mut position = 0u32;
-        for frame in 0..self.frames {
-            for index in 0..FRAME_WORDS as u32 {
-                position = position.wrapping_add(1);
-                if let Ok(word) = self.machine.memory().read(frame, index) {
-                    sum = sum.wrapping_add(word.wrapping_mul(position));
-                }
-            }
-        }
-        sum
+        let words = FRAME_WORDS as u32;
+        (0..self.frames.saturating_mul(words))
+            .map(|at| {
+                let word = self.machine.memory().read(at / words, at % words);
+                word.unwrap_or(0).wrapping_mul(at.wrapping_add(1))
+            })
+            .fold(0, u32::wrapping_add)
     }
 
     /// Does what a line says.

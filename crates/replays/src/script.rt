@@ -1,9 +1,8 @@
 //! Scripts, read line by line.
 use memory::guest::{FRAME_LIMIT, Frame};
-use paging::access::Privilege;
-use paging::format::{Level, Reason};
+use paging::format::Reason;
 use settled::Settlement;
-use std::str::SplitWhitespace;
+use std::str::{FromStr, SplitWhitespace};
 use unit::requests::Call;
 use walk::fault::{Depth, Fault};
 
@@ -13,11 +12,39 @@ pub enum FormatName {
     X86,
 }
 
+impl FromStr for FormatName {
+    type Err = UnknownName;
+
+    fn from_str(text: &str) -> Result<FormatName, UnknownName> {
+        match text {
+            "sv32" => Ok(FormatName::Sv32),
+            "x86" => Ok(FormatName::X86),
+            _ => Err(UnknownName),
+        }
+    }
+}
+
 #[derive(Clone, Copy)]
 pub enum PolicyName {
     Hand,
     Old,
 }
+
+impl FromStr for PolicyName {
+    type Err = UnknownName;
+
+    fn from_str(text: &str) -> Result<PolicyName, UnknownName> {
+        match text {
+            "hand" => Ok(PolicyName::Hand),
+            "old" => Ok(PolicyName::Old),
+            _ => Err(UnknownName),
+        }
+    }
+}
+
+/// A text that names no format, or no policy.
+#[derive(Clone, Copy, Debug)]
+pub struct UnknownName;
 
 /// What a script runs on: a flat memory of so many frames, or the part of it with a first frame and a count.
 #[derive(Clone, Copy)]
@@ -53,76 +80,28 @@ impl Words<'_> {
         u32::from_str_radix(word, 16).ok()
     }
 
-    fn format(&mut self) -> Option<FormatName> {
-        match self.rest.next()? {
-            "sv32" => Some(FormatName::Sv32),
-            "x86" => Some(FormatName::X86),
-            _ => None,
-        }
-    }
-
-    fn policy(&mut self) -> Option<PolicyName> {
-        match self.rest.next()? {
-            "hand" => Some(PolicyName::Hand),
-            "old" => Some(PolicyName::Old),
-            _ => None,
-        }
-    }
-
-    fn mode(&mut self) -> Option<Privilege> {
-        match self.rest.next()? {
-            "user" => Some(Privilege::User),
-            "supervisor" => Some(Privilege::Supervisor),
-            _ => None,
-        }
-    }
-
-    fn part(&mut self) -> Option<(Frame, Frame)> {
-        let first = self.number()?;
-        let count = self.number()?;
-        Some((first, count))
+    /// The next word as a name.
+    fn name<T: FromStr>(&mut self) -> Option<T>
+    where
+        T::Err: Drop,
+    {
+        self.rest.next()?.parse().ok()
     }
 
     fn setup(&mut self) -> Option<Setup> {
-        let format = self.format()?;
-        let policy = self.policy()?;
-        let frames = self.number()?;
-        if frames > FRAME_LIMIT {
-            return None;
-        }
-        let part = self.part();
         Some(Setup {
-            format,
-            policy,
-            frames,
-            part,
+            format: self.name()?,
+            policy: self.name()?,
+            frames: self.number().filter(|frames| *frames <= FRAME_LIMIT)?,
+            part: self.number().zip(self.number()),
         })
-    }
-
-    fn reason(&mut self) -> Option<Reason> {
-        match self.number()? {
-            1 => Some(Reason::Absent),
-            2 => Some(Reason::Malformed),
-            3 => Some(Reason::Denied),
-            4 => Some(Reason::Outside),
-            _ => None,
-        }
-    }
-
-    fn depth(&mut self) -> Option<Depth> {
-        match self.number()? {
-            0 => Some(Depth::Target),
-            1 => Some(Depth::Entry(Level::Table)),
-            2 => Some(Depth::Entry(Level::Directory)),
-            _ => None,
-        }
     }
 
     fn fault(&mut self) -> Option<Fault> {
         Some(Fault {
             address: self.number()?,
-            reason: self.reason()?,
-            depth: self.depth()?,
+            reason: Reason::try_from(self.number()?).ok()?,
+            depth: Depth::try_from(self.number()?).ok()?,
             frame: self.number()?,
             index: self.number()?,
             code: self.number()?,
@@ -139,7 +118,7 @@ impl Words<'_> {
             "flush" => Some(Call::FlushAll),
             "page" => Some(Call::FlushPage(self.number()?)),
             "switch" => Some(Call::Switch(self.number()?)),
-            "mode" => Some(Call::SetMode(self.mode()?)),
+            "mode" => Some(Call::SetMode(self.name()?)),
             "deliver" => Some(Call::Deliver(self.fault()?)),
             "give" => Some(Call::GiveUp(self.fault()?)),
             "close" => Some(Call::Close),

@@ -38,7 +38,7 @@ pub const X86_WORDS: Words = [
 
 /// Writes the page tables into a memory.
 pub fn furnish<M: GuestMemory>(memory: &mut M, words: &Words) {
-    for (frame, index, word) in words.iter() {
-        let _ = memory.write(*frame, *index, *word);
+    for (frame, index, word) in *words {
+        let _ = memory.write(frame, index, word);
     }
 }

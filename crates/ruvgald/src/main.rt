@@ -12,7 +12,7 @@ use paging::access::{Address, Kind, Privilege};
 use paging::format::PageFormat;
 use paging::sv32::Sv32;
 use paging::x86::X86;
-use report::Line;
+use report::{Line, Reached};
 use walk::fault::Access;
 use walk::marking::mark_entries;
 use walk::walking::walk;
@@ -35,48 +35,41 @@ const ACCESSES: [(Address, Kind, Privilege); 14] = [
     (0xffff_f010, Kind::Store, Privilege::Supervisor),
 ];
 
-/// Walks each access, marks what it read, and prints a line.
-fn show<F: PageFormat, M: GuestMemory>(rt: &HostRuntime, memory: &mut M) -> anyhow::Result<()> {
-    for (address, kind, privilege) in ACCESSES.iter() {
+/// Writes the page tables into a memory, walks each access there, marks what it read, and prints a line.
+fn show<F: PageFormat, M: GuestMemory>(
+    rt: &HostRuntime,
+    memory: &mut M,
+    words: &Words,
+) -> anyhow::Result<()> {
+    furnish(memory, words);
+    for (address, kind, privilege) in ACCESSES {
         let access = Access {
-            address: *address,
-            kind: *kind,
-            privilege: *privilege,
+            address,
+            kind,
+            privilege,
         };
-        match walk::<F, M>(memory, ROOT, access) {
-            Ok(walked) => {
-                let marks = mark_entries::<F, M>(memory, *kind, walked);
-                println!(rt;
-                    "{}",
-                    Line::Reached {
-                        access,
-                        target: walked.target,
-                        marks
-                    }
-                )?;
-            }
-            Err(fault) => println!(rt; "{}", Line::Faulted { access, fault })?,
-        }
+        let came = walk::<F, M>(memory, ROOT, access).map(|walked| Reached {
+            target: walked.target,
+            marks: mark_entries::<F, M>(memory, kind, walked),
+        });
+        println!(rt; "{}", Line { access, came })?;
     }
     Ok(())
 }
 
 /// The same over a flat memory, and over a partition in the middle of a larger one.
-fn both<F: PageFormat>(rt: &HostRuntime, name: &str, words: &Words) -> anyhow::Result<()> {
+fn both<F: PageFormat>(rt: &HostRuntime, format: &str, words: &Words) -> anyhow::Result<()> {
     let mut flat = Flat::zeroed(rt.alloc(), FRAMES)?;
-    furnish(&mut flat, words);
-    println!(rt; "{name} over a flat memory")?;
-    show::<F, Flat>(rt, &mut flat)?;
+    println!(rt; "{format} over a flat memory")?;
+    show::<F, Flat>(rt, &mut flat, words)?;
     let larger = Flat::zeroed(rt.alloc(), 3 * FRAMES)?;
     match Partition::new(larger, FRAMES, FRAMES) {
         Ok(mut part) => {
-            furnish(&mut part, words);
-            println!(rt; "{name} over a partition")?;
-            show::<F, Partition<Flat>>(rt, &mut part)
+            println!(rt; "{format} over a partition")?;
+            show::<F, Partition<Flat>>(rt, &mut part, words)
         }
         Err(refused) => {
-            let number = refused.refusal.number();
-            println!(rt; "refused {number}")?;
+            println!(rt; "refused {}", refused.refusal)?;
             Ok(())
         }
     }

@@ -1,91 +1,57 @@
 //! Walks as text.
 use memory::guest::Frame;
-use paging::access::{Kind, Privilege};
-use paging::format::{Level, Reason};
+use paging::format::Level;
 use std::fmt;
-use walk::fault::{Access, Depth, Fault};
+use walk::fault::{Access, Fault};
 use walk::marking::{Mark, Marks};
 
-/// What came of an access.
+/// An access, and what came of it.
 #[derive(Drop)]
-pub enum Line {
-    Reached {
-        access: Access,
-        target: Frame,
-        marks: Marks,
-    },
-    Faulted {
-        access: Access,
-        fault: Fault,
-    },
+pub struct Line {
+    pub access: Access,
+    pub came: Result<Reached, Fault>,
 }
 
-fn kind_word(kind: Kind) -> &'static str {
-    match kind {
-        Kind::Load => "load",
-        Kind::Store => "store",
-        Kind::Fetch => "fetch",
-    }
-}
-
-fn privilege_word(privilege: Privilege) -> &'static str {
-    match privilege {
-        Privilege::User => "user",
-        Privilege::Supervisor => "supervisor",
-    }
-}
-
-fn reason_word(reason: Reason) -> &'static str {
-    match reason {
-        Reason::Absent => "absent",
-        Reason::Malformed => "malformed",
-        Reason::Denied => "denied",
-        Reason::Outside => "outside",
-    }
-}
-
-fn depth_word(depth: Depth) -> &'static str {
-    match depth {
-        Depth::Entry(Level::Directory) => "directory's word (level 2)",
-        Depth::Entry(Level::Table) => "table's word (level 1)",
-        Depth::Target => "target (level 0)",
-    }
+/// The frame that an access reached, and the marks that it left.
+#[derive(Clone, Copy)]
+pub struct Reached {
+    pub target: Frame,
+    pub marks: Marks,
 }
 
 fn show_mark<W: fmt::Write>(
     mark: Option<Mark>,
-    name: &str,
+    level: Level,
     f: &mut fmt::Formatter<W>,
 ) -> fmt::Result {
-    match mark {
-        Some(mark) => {
-            let frame = mark.frame;
-            let index = mark.index;
-            let word = mark.word;
-            write!(
-                f,
-                ", marks the {name}'s word {index} of frame {frame} as {word:08x}"
-            )
-        }
-        None => Ok(()),
+    let Some(Mark { frame, index, word }) = mark else {
+        return Ok(());
+    };
+    write!(
+        f,
+        ", marks the {level}'s word {index} of frame {frame} as {word:08x}"
+    )
+}
+
+impl fmt::Display for Reached {
+    fn fmt<W: fmt::Write>(&self, f: &mut fmt::Formatter<W>) -> fmt::Result {
+        write!(f, "frame {}", self.target)?;
+        show_mark(self.marks.directory, Level::Directory, f)?;
+        show_mark(self.marks.table, Level::Table, f)
     }
 }
 
-fn show_access<W: fmt::Write>(access: Access, f: &mut fmt::Formatter<W>) -> fmt::Result {
-    let kind = kind_word(access.kind);
-    let address = access.address;
-    let privilege = privilege_word(access.privilege);
-    write!(f, "  {kind} {address:08x} as {privilege}: ")
-}
-
+// The programs print faults in forms of their own, so `Fault` has none.
 fn show_fault<W: fmt::Write>(fault: Fault, f: &mut fmt::Formatter<W>) -> fmt::Result {
-    let reason = reason_word(fault.reason);
-    let depth = depth_word(fault.depth);
-    let frame = fault.frame;
-    let index = fault.index;
-    let code = fault.code;
-    let cause = fault.cause;
-    let address = fault.address;
+    let Fault {
+        address,
+        reason,
+        depth,
+        frame,
+        index,
+        code,
+        cause,
+    } = fault;
     write!(
         f,
         "fault {code} at {address:08x}, {reason} by the {depth}, frame {frame}, index {index}, cause {cause}"
@@ -94,21 +60,15 @@ fn show_fault<W: fmt::Write>(fault: Fault, f: &mut fmt::Formatter<W>) -> fmt::Re
 
 impl fmt::Display for Line {
     fn fmt<W: fmt::Write>(&self, f: &mut fmt::Formatter<W>) -> fmt::Result {
-        match *self {
-            Line::Reached {
-                access,
-                target,
-                marks,
-            } => {
-                show_access(access, f)?;
-                write!(f, "frame {target}")?;
-                show_mark(marks.directory, "directory", f)?;
-                show_mark(marks.table, "table", f)
-            }
-            Line::Faulted { access, fault } => {
-                show_access(access, f)?;
-                show_fault(fault, f)
-            }
+        let Access {
+            address,
+            kind,
+            privilege,
+        } = self.access;
+        write!(f, "  {kind} {address:08x} as {privilege}: ")?;
+        match self.came {
+            Ok(reached) => write!(f, "{reached}"),
+            Err(fault) => show_fault(fault, f),
         }
     }
 }

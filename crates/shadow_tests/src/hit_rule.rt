@@ -55,8 +55,7 @@ fn all_hit<F: PageFormat>(rt: &impl Abort, cases: &[Case]) {
             aim: 6,
             writable: *writable,
         };
-        let expected = if *hits { Some(6) } else { None };
-        assert_eq!(rt; way.hit::<F>(*kind, *privilege), expected);
+        assert_eq!(rt; way.hit::<F>(*kind, *privilege), hits.then_some(6));
     }
 }
 

@@ -33,10 +33,10 @@ fn check_twice<P: EvictionPolicy + Drop>(
         let Ok(replies) = machine.run(heap, 0, slots, calls) else {
             return Err(Fail::new("the run was refused"));
         };
-        match replies.last() {
-            Some(reply) => assert_eq!(rt; shown(*reply), Seen::Closed(figures)),
-            None => return Err(Fail::new("nothing was answered")),
-        }
+        assert_eq!(rt;
+            replies.last().copied().map(shown),
+            Some(Seen::Closed(figures))
+        );
     }
     Ok(())
 }

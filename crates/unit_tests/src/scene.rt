@@ -13,6 +13,7 @@ use walk::fault::{Depth, Fault};
 use walk::marking::Marks;
 
 /// What is looked at in an answer.
+// A type of its own, since most tests leave out the marks that a `Reply` has.
 #[derive(Clone, Copy, PartialEq, Eq, Debug)]
 pub enum Seen {
     Refused(u8),
@@ -25,7 +26,7 @@ pub enum Seen {
 
 pub fn shown(reply: Reply) -> Seen {
     match reply {
-        Reply::Refused(refusal) => Seen::Refused(refusal.number()),
+        Reply::Refused(refusal) => Seen::Refused(u8::from(refusal)),
         Reply::Through(through) => Seen::Through(through.value, through.frame, through.exit),
         Reply::Faulted(fault) => Seen::Faulted(fault),
         Reply::Done(exit) => Seen::Done(exit),
@@ -42,6 +43,7 @@ pub fn marks(reply: Reply) -> Option<Marks> {
 }
 
 /// No figures at all, to be filled in.
+// Constants are made from it, and a constant cannot call `default`.
 pub const ZERO: Tallies = Tallies {
     calls: 0,
     hits: 0,
@@ -69,11 +71,8 @@ pub fn furnish<M: GuestMemory, F: PageFormat, P: EvictionPolicy>(
     machine: &mut Machine<M, F, P>,
     words: &[(Frame, u32, Word)],
 ) -> Result<(), Fail> {
-    for (frame, index, word) in words.iter() {
-        match machine.poke(*frame, *index, *word) {
-            Ok(()) => {}
-            Err(_) => return Err(Fail::new("a poke was refused")),
-        }
+    for (frame, index, word) in words {
+        machine.poke(*frame, *index, *word)?;
     }
     Ok(())
 }

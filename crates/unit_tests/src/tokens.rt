@@ -39,20 +39,9 @@ fn code(reply: Reply) -> Option<u32> {
     }
 }
 
-/// Opens a run at the directory.
-fn opened(machine: &mut Machine<Flat, X86, Hand>, slots: usize) -> Result<RunningToken, Fail> {
-    match machine.open(0, slots) {
-        Ok(token) => Ok(token),
-        Err(_) => Err(Fail::new("the opening was refused")),
-    }
-}
-
 /// The figures of the run that a token closes.
 fn report(machine: &mut Machine<Flat, X86, Hand>, token: RunningToken) -> Option<Tallies> {
-    match machine.close(token) {
-        Ok(closed) => Some(closed.report()),
-        Err(_) => None,
-    }
+    machine.close(token).ok().map(|closed| closed.report())
 }
 
 /// Offers the fault of an answer to a machine that does not wait for it, and then settles it in the one that does.
@@ -104,13 +93,11 @@ fn load_and_offer<M: GuestMemory, F: PageFormat, P: EvictionPolicy>(
 fn refused_close_hands_back(rt: HostRuntime) -> Result<(), Fail> {
     let mut right = furnished(rt.alloc())?;
     let mut wrong = furnished(rt.alloc())?;
-    let Ok(token) = right.open(1, 2) else {
-        return Err(Fail::new("the opening was refused"));
-    };
+    let token = right.open(1, 2)?;
     let Err(still) = wrong.close(token) else {
         return Err(Fail::new("closed without a run"));
     };
-    assert_eq!(rt; still.refusal.number(), 2);
+    assert_eq!(rt; u8::from(still.refusal), 2);
     assert_eq!(rt; still.token.root(), 1);
     assert_eq!(rt; report(&mut right, still.token), Some(ZERO));
     Ok(())
@@ -121,7 +108,7 @@ fn refused_close_hands_back(rt: HostRuntime) -> Result<(), Fail> {
 fn refused_settlement_hands_back(rt: HostRuntime) -> Result<(), Fail> {
     let mut right = furnished(rt.alloc())?;
     let mut wrong = furnished(rt.alloc())?;
-    let token = opened(&mut right, 2)?;
+    let token = right.open(0, 2)?;
     let twice = load_and_offer(&mut right, &mut wrong, 0x40_0000);
     assert_eq!(rt; twice, Some((Refusal::NoRun, Refusal::NoRun)));
     assert!(rt; wrong.open(0, 2).is_ok());
@@ -146,7 +133,7 @@ fn refused_settlement_hands_back(rt: HostRuntime) -> Result<(), Fail> {
 #[test]
 fn fault_record_follows_deliveries(rt: HostRuntime) -> Result<(), Fail> {
     let mut machine = furnished(rt.alloc())?;
-    let token = opened(&mut machine, 2)?;
+    let token = machine.open(0, 2)?;
     assert_eq!(rt; machine.fault_record(), Ok(None));
     assert_eq!(rt;
         code(settled::load(&mut machine, 0x40_0000, Settlement::GiveUp)),
@@ -198,7 +185,7 @@ const ONE_OF_EACH: Tallies = Tallies {
 #[test]
 fn opened_again(rt: HostRuntime) -> Result<(), Fail> {
     let mut machine = furnished(rt.alloc())?;
-    let token = opened(&mut machine, 2)?;
+    let token = machine.open(0, 2)?;
     let miss = Seen::Through(0, 1, Exit::Hidden);
     let hit = Seen::Through(0, 1, Exit::None);
     assert_eq!(rt;
@@ -217,7 +204,7 @@ fn opened_again(rt: HostRuntime) -> Result<(), Fail> {
         Some(5)
     );
     assert_eq!(rt; report(&mut machine, token), Some(ONE_OF_EACH));
-    let token = opened(&mut machine, 8)?;
+    let token = machine.open(0, 8)?;
     assert_eq!(rt;
         shown(settled::load(&mut machine, 4, Settlement::Deliver)),
         miss

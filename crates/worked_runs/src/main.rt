@@ -12,6 +12,7 @@ use paging::x86::X86;
 use policies::hand::Hand;
 use policies::old::Old;
 use policies::policy::EvictionPolicy;
+use scenes::Guest;
 use text::Line;
 use unit::machine::Machine;
 use unit::requests::{Call, RunError};
@@ -34,8 +35,7 @@ fn show<F: PageFormat, P: EvictionPolicy + Drop>(
     let mut machine: Machine<Flat, F, P> = Machine::new(flat, policy);
     for (frame, index, word) in words {
         if let Err(refusal) = machine.poke(*frame, *index, *word) {
-            let number = refusal.number();
-            println!(rt; "  poke refused, {number}")?;
+            println!(rt; "  poke refused, {refusal}")?;
         }
     }
     match machine.run(rt.alloc(), ROOT, 2, calls) {
@@ -52,8 +52,7 @@ fn show<F: PageFormat, P: EvictionPolicy + Drop>(
             Ok(())
         }
         Err(RunError::Refused(refusal)) => {
-            let number = refusal.number();
-            println!(rt; "  opening refused, {number}")?;
+            println!(rt; "  opening refused, {refusal}")?;
             Ok(())
         }
         Err(RunError::NoMemory) => {
@@ -66,17 +65,29 @@ fn show<F: PageFormat, P: EvictionPolicy + Drop>(
 /// The three scenes that are checked at each site, by one format and one policy.
 fn show_scenes<F: PageFormat, P: EvictionPolicy + Copy + Drop>(
     rt: &HostRuntime,
+    guest: &Guest,
     name: &str,
     policy: P,
-    words: &scenes::Words,
-    entry: Word,
 ) -> anyhow::Result<()> {
-    println!(rt; "{name}: a table's entry is stored to, all is flushed, and the page is loaded")?;
-    show::<F, P>(rt, policy, words, &scenes::stored_and_flushed(entry))?;
-    println!(rt; "{name}: an edited table hangs under a second entry of the directory")?;
-    show::<F, P>(rt, policy, words, &scenes::hung_twice(entry))?;
-    println!(rt; "{name}: a page is loaded twice")?;
+    let Guest {
+        format,
+        words,
+        entry,
+    } = guest;
+    println!(rt;
+        "{format}, {name}: a table's entry is stored to, all is flushed, and the page is loaded"
+    )?;
+    show::<F, P>(rt, policy, words, &scenes::stored_and_flushed(*entry))?;
+    println!(rt; "{format}, {name}: an edited table hangs under a second entry of the directory")?;
+    show::<F, P>(rt, policy, words, &scenes::hung_twice(*entry))?;
+    println!(rt; "{format}, {name}: a page is loaded twice")?;
     show::<F, P>(rt, policy, words, &scenes::LOADED_TWICE)
+}
+
+/// The same by each policy.
+fn show_policies<F: PageFormat>(rt: &HostRuntime, guest: &Guest) -> anyhow::Result<()> {
+    show_scenes::<F, Hand>(rt, guest, "hand", Hand::new())?;
+    show_scenes::<F, Old>(rt, guest, "old", Old::new())
 }
 
 fn run(rt: &HostRuntime) -> anyhow::Result<()> {
@@ -87,34 +98,8 @@ fn run(rt: &HostRuntime) -> anyhow::Result<()> {
         &scenes::WORKED_WORDS,
         &scenes::WORKED_CALLS,
     )?;
-    show_scenes::<Sv32, Hand>(
-        rt,
-        "sv32, hand",
-        Hand::new(),
-        &scenes::SV32_WORDS,
-        scenes::SV32_ENTRY,
-    )?;
-    show_scenes::<Sv32, Old>(
-        rt,
-        "sv32, old",
-        Old::new(),
-        &scenes::SV32_WORDS,
-        scenes::SV32_ENTRY,
-    )?;
-    show_scenes::<X86, Hand>(
-        rt,
-        "x86, hand",
-        Hand::new(),
-        &scenes::X86_WORDS,
-        scenes::X86_ENTRY,
-    )?;
-    show_scenes::<X86, Old>(
-        rt,
-        "x86, old",
-        Old::new(),
-        &scenes::X86_WORDS,
-        scenes::X86_ENTRY,
-    )
+    show_policies::<Sv32>(rt, &scenes::SV32)?;
+    show_policies::<X86>(rt, &scenes::X86)
 }
 
 fn main(rt: HostRuntime) -> anyhow::Result<()> {

@@ -31,32 +31,41 @@ pub const WORKED_CALLS: [Call; 7] = [
     Call::Close,
 ];
 
-/// The guest of the scenes: both entries 1 and 2 of the directory in frame 0 name the table in frame 1, which names frame 2 at
+/// A guest of the scenes: both entries 1 and 2 of the directory in frame 0 name the table in frame 1, which names frame 2 at
 /// index 2 and itself at index 3. Frames 2 and 3 hold a word to tell them by.
-pub type Words = [(Frame, u32, Word); 6];
+#[derive(Drop)]
+pub struct Guest {
+    pub format: &'static str,
+    pub words: [(Frame, u32, Word); 6],
+    /// The entry that names frame 3.
+    pub entry: Word,
+}
 
-pub const SV32_WORDS: Words = [
-    (0, 1, 0x0000_0401),
-    (0, 2, 0x0000_0401),
-    (1, 2, 0x0000_0807),
-    (1, 3, 0x0000_0407),
-    (2, 1, 0x2222_2222),
-    (3, 1, 0x3333_3333),
-];
+pub const SV32: Guest = Guest {
+    format: "sv32",
+    words: [
+        (0, 1, 0x0000_0401),
+        (0, 2, 0x0000_0401),
+        (1, 2, 0x0000_0807),
+        (1, 3, 0x0000_0407),
+        (2, 1, 0x2222_2222),
+        (3, 1, 0x3333_3333),
+    ],
+    entry: 0x0000_0c07,
+};
 
-pub const X86_WORDS: Words = [
-    (0, 1, 0x0000_1007),
-    (0, 2, 0x0000_1007),
-    (1, 2, 0x0000_2007),
-    (1, 3, 0x0000_1007),
-    (2, 1, 0x2222_2222),
-    (3, 1, 0x3333_3333),
-];
-
-/// The entry that names frame 3, in each format.
-pub const SV32_ENTRY: Word = 0x0000_0c07;
-
-pub const X86_ENTRY: Word = 0x0000_3007;
+pub const X86: Guest = Guest {
+    format: "x86",
+    words: [
+        (0, 1, 0x0000_1007),
+        (0, 2, 0x0000_1007),
+        (1, 2, 0x0000_2007),
+        (1, 3, 0x0000_1007),
+        (2, 1, 0x2222_2222),
+        (3, 1, 0x3333_3333),
+    ],
+    entry: 0x0000_3007,
+};
 
 /// A table's entry is stored to, all is flushed, and the page is loaded: the load finds the new frame.
 pub fn stored_and_flushed(entry: Word) -> [Call; 6] {
