@@ -1,5 +1,5 @@
 -- A place whose frame has no words stops a walk.
-use Rattle.std.specs.Prelude.{ℕ, Ok, Err, Result}
+use Rattle.std.specs.Prelude.{ℕ, Ok, Err, Result, Some}
 use Rattle.memory.specs.Memory.{Contents, words, cause}
 use Rattle.paging.specs.declared.format.Reason.TheVariants.{Outside}
 use Rattle.paging.specs.declared.format.Level.{Level}
@@ -10,7 +10,7 @@ use Rattle.walk.specs.declared.fault.Stop.{Stop}
 use Rattle.walk.specs.declared.path.EntryRead.{EntryRead}
 
 abbrev pub gap_stop : Gap → Stop
-gap_stop g = record { reason = Outside; place = g.place; cause = g.cause.number }
+gap_stop g = record { reason = Outside; place = g.place; cause = Some g.cause }
 
 -- the word at a place, or the gap that is there
 abbrev pub word_or_gap : Place → Contents → Result ℕ Gap

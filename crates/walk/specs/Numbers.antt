@@ -1,5 +1,6 @@
 -- What the code's values say, in plain numbers.
 use Rattle.std.specs.Prelude.{ℕ, List, [], ◌∷◌, Some, None, Ok, Err, Option, Result}
+use Rattle.memory.specs.declared.guest.Cause.{Cause}
 use Rattle.paging.specs.Formats.{Format}
 use Rattle.paging.specs.Numbers.{kind_number, level_number, privilege_number, reason_number}
 use Rattle.walk.specs.Walk.{Asked, Failure, Outcome, Seen, Spot, failure, faulted, reached, spot}
@@ -47,9 +48,14 @@ abbrev pub outcome : Result Walked Fault → Outcome
 outcome (Ok w) = walked_outcome w
 outcome (Err f) = faulted (fault_numbers f)
 
+-- a walk that stopped for want of anything but words has no cause, which a fault says by 0
+abbrev pub cause_number : Option Cause → ℕ
+cause_number None = 0
+cause_number (Some c) = c.number
+
 -- what a walk that stopped will answer, once address and code are added
 abbrev pub stop_failure : Format → Asked → Stop → Failure
-stop_failure F a s = failure F a (reason_number s.reason) (place_spot s.place) s.cause
+stop_failure F a s = failure F a (reason_number s.reason) (place_spot s.place) (cause_number s.cause)
 
 abbrev pub stopped : Format → Asked → Result Walked Stop → Outcome
 stopped F a (Ok w) = walked_outcome w

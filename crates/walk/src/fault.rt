@@ -44,16 +44,17 @@ pub struct Gap {
     pub cause: Cause,
 }
 
-/// Why and where a walk stopped. The cause is 0 unless a frame had no words.
+/// Why and where a walk stopped, and the cause of a frame that had no words, if that was why.
 #[derive(Clone, Copy)]
 pub struct Stop {
     pub reason: Reason,
     pub place: Place,
-    pub cause: u32,
+    pub cause: Option<Cause>,
 }
 
 /// A fault: the address, why, the depth, frame and index of the word that decided it, the format's code, and the
 /// memory's cause, which is 0 unless a frame had no words.
+// The cause is no Option: a memory may give the cause 0, and such a fault is the same as one without a cause.
 #[derive(Clone, Copy, PartialEq, Eq, Debug)]
 pub struct Fault {
     pub address: Address,

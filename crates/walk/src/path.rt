@@ -1,5 +1,5 @@
 //! What a walk reads on its way.
-ghost use Rattle.std.specs.Prelude.{◌≡◌, ◌/◌, ◌%◌, ◌^◌, ◌<◌};
+ghost use Rattle.std.specs.Prelude.{◌≡◌, ◌/◌, ◌%◌, ◌^◌, ◌<◌, None};
 ghost use Rattle.memory.specs.Memory.{frame_words};
 ghost use Rattle.paging.specs.Numbers.{level_number, reason_number};
 ghost use Rattle.paging.specs.Terms.{target_level};
@@ -78,12 +78,12 @@ impl EntryRead {
     pub fn stop(self, reason: Reason) -> Stop
         ensures place { place_spot result.place ≡ (entry_seen self).spot }
         ensures reason { reason_number result.reason ≡ reason_number reason }
-        ensures cause { result.cause ≡ 0 }
+        ensures cause { result.cause ≡ None }
     {
         Stop {
             reason,
             place: Place::entry(self.level, self.frame, self.index),
-            cause: 0,
+            cause: None,
         }
     }
 }

@@ -17,7 +17,7 @@ impl From<Gap> for Stop {
         Stop {
             reason: Reason::Outside,
             place: gap.place,
-            cause: gap.cause.number,
+            cause: Some(gap.cause),
         }
     }
 }
@@ -33,7 +33,7 @@ fn fault<F: PageFormat>(access: Access, stop: Stop) -> Fault
         frame: stop.place.frame,
         index: stop.place.index,
         code: F::code(stop.reason, access.kind, access.privilege),
-        cause: stop.cause,
+        cause: stop.cause.map_or(0, |cause| cause.number),
     }
 }
 
