@@ -1,5 +1,5 @@
 -- What setting bits by a mask leaves of a word, and laws of every format that sets bits by how a word reads.
-use Rattle.std.specs.Prelude.{◌≡◌, ℕ, ◌/◌, ◌%◌, ◌^◌, false, ◌||◌, bit_or, nat_eq}
+use Rattle.std.specs.Prelude.{◌≡◌, ℕ, ◌/◌, ◌%◌, ◌^◌, false, ◌||◌, max, bit_or, nat_eq}
 use Rattle.std.proofs.Common.{ap, ◌∙◌, arith}
 use Rattle.std.proofs.lemmas.Nat.{or_shr}
 use Rattle.std.proofs.lemmas.Nat.Bits.{bit_at_or, same_from_bits}
@@ -8,9 +8,13 @@ use Rattle.memory.specs.Answers.{Answer}
 use Rattle.paging.specs.Bits.{bit}
 use Rattle.paging.specs.Terms.{is_page, is_table}
 
+-- bit j of a word and a mask
+or_bit : (j a b : ℕ) → bit_or a b / 2 ^ j % 2 ≡ max (a / 2 ^ j % 2) (b / 2 ^ j % 2)
+or_bit j a b = bit_at_or a b j
+
 -- a bit that the mask b has not stays
 pub bit_kept : (j a b : ℕ) → b / 2 ^ j % 2 ≡ 0 → bit j (bit_or a b) ≡ bit j a
-bit_kept j a b h = ap (λ (n : ℕ). nat_eq n 1) (bit_at_or a b j ∙ omega arith)
+bit_kept j a b h = ap (λ (n : ℕ). nat_eq n 1) (or_bit j a b ∙ omega arith)
 
 -- the bits from j up stay, where the mask b has none of them
 pub high_kept : (j a b : ℕ) → b / 2 ^ j ≡ 0 → bit_or a b / 2 ^ j ≡ a / 2 ^ j
@@ -23,6 +27,10 @@ or_swap a b c = same_from_bits _ _ (λ i. simp bit_at_or (omega arith))
 or_again : (a b : ℕ) → bit_or (bit_or a b) b ≡ bit_or a b
 or_again a b = same_from_bits _ _ (λ i. simp bit_at_or (omega arith))
 
+-- an empty mask
+pub unmarked : (w b : ℕ) → b ≡ 0 → bit_or w b ≡ w
+unmarked w b e = rw e (or_zero_r w)
+
 -- Marks that are bits set by how the word reads.
 module _ (reads : ℕ → ℕ → Answer) (due : Answer → ℕ → ℕ) where
   abbrev marks : ℕ → ℕ → ℕ → ℕ
@@ -30,7 +38,7 @@ module _ (reads : ℕ → ℕ → Answer) (due : Answer → ℕ → ℕ) where
 
   -- Only pages and tables are marked, where no bits are due on anything else.
   pub entries_by : ((r : Answer) (k : ℕ) → (is_table r || is_page r) ≡ false → due r k ≡ 0) → (l k w : ℕ) → (is_table (reads l w) || is_page (reads l w)) ≡ false → marks l k w ≡ w
-  entries_by none l k w h = rw (none (reads l w) k h) (or_zero_r w)
+  entries_by none l k w h = unmarked w _ (none (reads l w) k h)
 
   -- The second law, where marks leave as it is how the word reads.
   pub once_by : ((l m k w : ℕ) → reads m (marks l k w) ≡ reads m w) → (l k w : ℕ) → marks l k (marks l k w) ≡ marks l k w

@@ -1,6 +1,7 @@
 -- The laws of x86: marks are bits 5 and 6, and no entry is read or allowed by them.
-use Rattle.std.specs.Prelude.{◌≡◌, ℕ, ◌/◌, ◌%◌, Bool, true, false, cond, ◌&&◌, ◌||◌, [], ◌∷◌, ◌==◌, bit_or, refl}
-use Rattle.std.proofs.Common.{ap, arith}
+use Rattle.std.specs.Prelude.{◌≡◌, ℕ, ◌+◌, ◌/◌, ◌%◌, ◌<◌, Bool, true, false, cond, ◌&&◌, ◌||◌, List, [], ◌∷◌, length, drop, ◌==◌, bit_or, slice_index, refl}
+use Rattle.std.proofs.Common.{sym, ap, ◌∙◌, arith}
+use Rattle.std.proofs.lemmas.List.{drop_more}
 use Rattle.std.proofs.lemmas.Bool.Decides.{nat_tests}
 use Rattle.memory.specs.Answers.{Answer}
 use Rattle.paging.specs.Formats.{EntriesMarked, ReadingKept, RightsKept}
@@ -36,6 +37,11 @@ pub rights_kept : RightsKept x86
 rights_kept [] lower w l k j p =
     ap (λ (b : Bool). b && x86_allows lower j p) (allow_same w (x86_due (x86_reads l w) k) (due_masked (x86_reads l w) k) j p)
 rights_kept (x ∷ upper) lower w l k j p = ap (λ (b : Bool). word_allows j p x && b) (rights_kept upper lower w l k j p)
+
+-- what the words from place i on allow, by the word there
+pub allow_step : (ws : List ℕ) (i k p : ℕ) (b : Bool) → i < length ws → b ≡ word_allows k p (slice_index ws i) → x86_allows (drop i ws) k p ≡ (b && x86_allows (drop (i + 1) ws) k p)
+allow_step ws i k p b h e =
+    ap (λ xs. x86_allows xs k p) (drop_more ws i 0 h) ∙ ap (λ (t : Bool). t && x86_allows (drop (i + 1) ws) k p) (sym e)
 
 due_none : (r : Answer) (k : ℕ) → (is_table r || is_page r) ≡ false → x86_due r k ≡ 0
 due_none r k h = grind (arith, nat_tests)
