@@ -36,9 +36,11 @@ impl<M: GuestMemory> GuestMemory for Partition<M> {
 
     ghost wraps = { Prim.search rules };
 
+    // A form that the project fixes: a memory's cause passes by `?`, here as in the walk above.
     fn read(&self, frame: Frame, index: u32) -> Result<Word, Cause> {
         if frame < self.count {
-            self.under.read(self.first + frame, index)
+            let word = self.under.read(self.first + frame, index)?;
+            Ok(word)
         } else {
             Err(OUTSIDE)
         }
@@ -46,7 +48,8 @@ impl<M: GuestMemory> GuestMemory for Partition<M> {
 
     fn write(&mut self, frame: Frame, index: u32, word: Word) -> Result<(), Cause> {
         if frame < self.count {
-            self.under.write(self.first + frame, index, word)
+            self.under.write(self.first + frame, index, word)?;
+            Ok(())
         } else {
             Err(OUTSIDE)
         }
