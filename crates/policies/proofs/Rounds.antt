@@ -1,48 +1,19 @@
 -- The order from a hand: what stands at a place, and how it turns.
-use Rattle.std.proofs.Common.{◌≡◌, ℕ, zero, suc, ◌+◌, ◌-◌, ◌<◌, ◌≤◌, false, cond, eqb, List, [], ◌∷◌, ◌++◌, length, get_or, take, sym, refl, subst, ap, ◌∙◌, ⊎_elim, add-one, arith, length-append}
+use Rattle.std.proofs.Common.{◌≡◌, ℕ, zero, suc, ◌+◌, ◌-◌, ◌<◌, ◌≤◌, false, cond, eqb, List, [], ◌∷◌, ◌++◌, length, get_or, take, sym, refl, ap, ◌∙◌, ⊎_elim, add-one, arith, length-append}
 use Rattle.std.proofs.lemmas.List.{append_assoc, get_or_append_left, get_or-append_right}
-use Rattle.std.proofs.iter.Yields.{nat_range_steps}
-use Rattle.std.proofs.lemmas.Iterator.{YieldsList, YieldsList-from_range}
-use Rattle.std.proofs.lemmas.Iterator.Consumers.{YieldsList-from_chain}
-use Rattle.std.specs.declared.iter.Chain.{Chain}
-use Rattle.std.specs.declared.ops.Range.{Range}
-use Rattle.std.specs.Iterator.Adapters.{chain_first, chain_first_done, chain_second, chain_second_done, chain_steps}
-use Rattle.std.specs.List.{range_with_len}
 use Rattle.std.proofs.lemmas.Bool.{cases_lt, eq-eqb, ne_eqb}
 use Rattle.std.proofs.lemmas.Bool.Decides.{nat_tests}
 use Rattle.policies.specs.Orders.{rising, from_hand, times, behind, up_to, turned_past}
 use Rattle.policies.specs.Turning.{times_append}
 
--- the numbers of a range are rising
-rising_range : (a n : ℕ) → range_with_len a n ≡ rising a n
-rising_range a zero = refl
-rising_range a (suc n) = ap (λ (r : List ℕ). a ∷ r) (ap (λ b. range_with_len b n) (add-one a) ∙ rising_range (suc a) n)
-
--- two ranges, one after the other, give the slots from a hand on
-pub from_hand_yields : {s : Chain (Range ℕ) (Range ℕ)} (h n : ℕ) → chain_first s ≡ record { start = h; end = n } → chain_second s ≡ record { start = 0; end = h } → (chain_first_done s ≡ false) × (chain_second_done s ≡ false) → YieldsList (chain_steps nat_range_steps nat_range_steps) (λ x. x) s (from_hand h n)
-from_hand_yields {s} h n first second whole =
-    subst (YieldsList (chain_steps nat_range_steps nat_range_steps) (λ x. x) s)
-    (rw (rising_range h (n - h), rising_range 0 h) refl)
-    (YieldsList-from_chain (YieldsList-from_range h n (n - h) first refl) (YieldsList-from_range 0 h h second (omega arith)) whole.0 whole.1)
-
 length_rising : (a n : ℕ) → length (rising a n) ≡ n
 length_rising a zero = refl
 length_rising a (suc n) = ap suc (length_rising (suc a) n)
 
-get_or_rising : (a n i d : ℕ) → i < n → get_or (rising a n) i d ≡ a + i
-get_or_rising a zero i d h = absurd (omega arith)
-get_or_rising a (suc n) zero d h = omega arith
-get_or_rising a (suc n) (suc i) d h = omega (arith, get_or_rising (suc a) n i d (omega arith))
-
-pub from_hand_below : (h n i d : ℕ) → h ≤ n → i < length (from_hand h n) → get_or (from_hand h n) i d < n
-from_hand_below h n i d le lt =
-    let high = rising h (n - h) in
-    let long : length high ≡ n - h = length_rising h (n - h) in
-    let all : length (from_hand h n) ≡ n = omega (arith, length-append high (rising 0 h), length_rising 0 h) in
-    ⊎_elim
-    (λ above. omega (arith, get_or_append_left high (rising 0 h) d i (omega arith), get_or_rising h (n - h) i d above))
-    (λ past. omega (arith, get_or-append_right high (rising 0 h) (n - h) i d long past, get_or_rising 0 h (i - (n - h)) d (omega arith)))
-    (cases_lt i (n - h))
+get_or_rising : (a n i : ℕ) → i < n → get_or (rising a n) i 0 ≡ a + i
+get_or_rising a zero i h = absurd (omega arith)
+get_or_rising a (suc n) zero h = omega arith
+get_or_rising a (suc n) (suc i) h = omega (arith, get_or_rising (suc a) n i (omega arith))
 
 pub rising_join : (a m k b n : ℕ) → b ≡ a + m → n ≡ m + k → rising a m ++ rising b k ≡ rising a n
 rising_join a zero k b n p q =
@@ -107,6 +78,22 @@ pub passed_slot : (h s n : ℕ) → h ≤ n → s < n → from_hand (s + 1) n �
 passed_slot h s n le lt =
     ap (λ t. from_hand t n) (add-one s)
     ∙ sym (⊎_elim (λ below. past_below h s n below le) (λ above. past_above h s n above lt) (cases_lt s h))
+
+pub length_from_hand : (h n : ℕ) → h ≤ n → length (from_hand h n) ≡ n
+length_from_hand h n le =
+    omega (arith, length-append (rising h (n - h)) (rising 0 h), length_rising h (n - h), length_rising 0 h)
+
+-- what stands i places on from the hand, before the end ..
+pub ahead_above : (h n i : ℕ) → i < n - h → h + i ≡ get_or (from_hand h n) i 0
+ahead_above h n i lt =
+    let long = length_rising h (n - h) in
+    sym (get_or_append_left (rising h (n - h)) (rising 0 h) 0 i (omega arith) ∙ get_or_rising h (n - h) i lt)
+
+-- .. and round the end
+pub ahead_below : (h n i : ℕ) → h ≤ n → n - h ≤ i → i < n → i - (n - h) ≡ get_or (from_hand h n) i 0
+ahead_below h n i le past lt =
+    let there = get_or-append_right (rising h (n - h)) (rising 0 h) (n - h) i 0 (length_rising h (n - h)) past in
+    omega (arith, there, get_or_rising 0 h (i - (n - h)) (omega arith))
 
 -- an order of no slots stays
 pub passed_none : (h s n : ℕ) → h ≤ n → n ≤ s → (0 < n → s < n) → from_hand 0 n ≡ turned_past s (from_hand h n)

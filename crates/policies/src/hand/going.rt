@@ -1,13 +1,10 @@
 //! A hand is an eviction policy.
-ghost use Rattle.std.specs.Prelude.{◌≡◌, ◌<◌, false};
-ghost use Rattle.std.specs.Iterator.Adapters.{chain_first, chain_first_done, chain_second, chain_second_done};
+ghost use Rattle.std.specs.Prelude.{◌≡◌, ◌<◌, slice_index};
 ghost use Rattle.policies.specs.Orders.{first_permitted, from_hand, hand_rule, numbered, turned_past};
 ghost use Rattle.policies.specs.Turning.{kept_rearranges, past_rearranges};
 
 use super::Hand;
 use crate::policy::{EvictionPolicy, SLOT_LIMIT, SlotNumber};
-use std::iter::Chain;
-use std::ops::Range;
 
 impl Hand {
     /// Eight slots in the order of their numbers.
@@ -20,21 +17,35 @@ impl Hand {
         }
     }
 
-    /// The slots in order from the hand on, and round the end.
-    fn ahead(&self) -> Chain<Range<SlotNumber>, Range<SlotNumber>>
-        ensures above { chain_first result ≡ record { start = self.now.hand; end = self.now.count } }
-        ensures round { chain_second result ≡ record { start = 0; end = self.now.hand } }
-        ensures whole { (chain_first_done result ≡ false) × (chain_second_done result ≡ false) }
+    /// The slot so many places on from the hand.
+    fn ahead(&self, passed: usize) -> SlotNumber
+        requires { passed < self.now.count }
+        ensures slot { result ≡ slice_index (from_hand self.now.hand self.now.count) passed }
+        ensures below { result < self.now.count }
     {
-        (self.hand..self.count).chain(0..self.hand)
+        if passed < self.count - self.hand {
+            self.hand + passed
+        } else {
+            passed - (self.count - self.hand)
+        }
     }
 
     /// The first permitted slot from the hand on; 0 where there is none.
+    // A form that the project fixes: the search is a loop that yields its slot by `break`.
     fn first_permitted(&self, permitted: &[bool; SLOT_LIMIT]) -> SlotNumber
         ensures answer { result ≡ first_permitted permitted.now (from_hand self.now.hand self.now.count) }
         ensures below { 0 < self.now.count → result < self.now.count }
     {
-        self.ahead().find(|slot| permitted[*slot]).unwrap_or(0)
+        let mut places = 0..self.count;
+        loop {
+            let Some(passed) = places.next() else {
+                break 0;
+            };
+            let slot = self.ahead(passed);
+            if permitted[slot] {
+                break slot;
+            }
+        }
     }
 
     /// Moves the hand past a slot.
