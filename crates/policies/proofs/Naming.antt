@@ -1,6 +1,8 @@
 -- The slot that is named: it is found from place to place, and where some slot of the order is permitted, it is permitted and stands in the order.
-use Rattle.std.proofs.Common.{◌≡◌, ℕ, ◌+◌, ◌<◌, Bool, true, false, cond, List, [], ◌∷◌, length, get_or, drop, sym, refl, ap, ◌∙◌, arith}
+use Rattle.std.proofs.Common.{◌≡◌, ℕ, ◌+◌, ◌<◌, Bool, true, false, cond, List, [], ◌∷◌, length, get_or, drop, Some, None, Option, sym, refl, ap, ◌∙◌, arith}
 use Rattle.std.proofs.lemmas.List.{at_drop_more}
+use Rattle.std.specs.List.{find}
+use Rattle.std.specs.Option.{option_map, unwrap_or}
 use Rattle.std.proofs.lemmas.Bool.{both_ways, cond_both, eq-eqb, ne_eqb}
 use Rattle.policies.specs.Orders.{first_permitted, times, NamesPermitted, NamesStanding}
 
@@ -18,6 +20,12 @@ good permitted (x ∷ o) s h k =
     let rest = good permitted o s h (omega arith) in
     (rest.0, omega (arith, rest.1)))
 
+found : (permitted : List Bool) (o : List ℕ) → unwrap_or (find (λ s. get_or permitted s false) o) 0 ≡ first_permitted permitted o
+found permitted [] = refl
+found permitted (x ∷ o) =
+    elim (get_or permitted x false) as (λ b. unwrap_or (cond b (Some x) (find (λ s. get_or permitted s false) o)) 0 ≡ cond b x (first_permitted permitted o))
+    [ true ↦ refl | false ↦ found permitted o ]
+
 pub names_permitted : NamesPermitted
 names_permitted permitted o s h k = (good permitted o s h k).0
 
@@ -30,3 +38,8 @@ first_step permitted o i s b h e t =
     at_drop_more (first_permitted permitted) o i 0 h
     ∙ ap (λ x. cond (get_or permitted x false) x (first_permitted permitted (drop (i + 1) o))) (sym e)
     ∙ ap (λ (v : Bool). cond v s (first_permitted permitted (drop (i + 1) o))) t
+
+-- where a search for a permitted slot found r
+pub named_found : (permitted : List Bool) (o : List ℕ) (r : Option ℕ) → option_map (λ x. x) r ≡ find (λ s. get_or permitted s false) o → unwrap_or r 0 ≡ first_permitted permitted o
+named_found permitted o None e = ap (λ r. unwrap_or r 0) e ∙ found permitted o
+named_found permitted o (Some x) e = ap (λ r. unwrap_or r 0) e ∙ found permitted o

@@ -7,6 +7,10 @@ pub times_append : (s : ℕ) (o p : List ℕ) → times s (o ++ p) ≡ times s o
 times_append s [] p = omega arith
 times_append s (x ∷ o) p = omega (arith, times_append s o p)
 
+-- an order that is kept
+pub kept_rearranges : Rearranges (λ o x. o)
+kept_rearranges o x s = refl
+
 -- both parts of an order together hold what it holds
 parts : (x s : ℕ) (o : List ℕ) → times s (behind x o) + times s (up_to x o) ≡ times s o
 parts x s [] = refl

@@ -1,8 +1,7 @@
 //! A hand is an eviction policy.
 ghost use Rattle.std.specs.Prelude.{◌≡◌, ◌<◌, slice_index};
 ghost use Rattle.policies.specs.Orders.{first_permitted, from_hand, hand_rule, numbered, turned_past};
-ghost use Rattle.policies.specs.Turning.{past_rearranges};
-ghost use Rattle.std.proofs.Common.{rules, arith};
+ghost use Rattle.policies.specs.Turning.{kept_rearranges, past_rearranges};
 
 use super::Hand;
 use crate::policy::{EvictionPolicy, SLOT_LIMIT, SlotNumber};
@@ -32,20 +31,20 @@ impl Hand {
     }
 
     /// The first permitted slot from the hand on; 0 where there is none.
+    // A form that the project fixes: the search is a loop that yields its slot by `break`.
     fn first_permitted(&self, permitted: &[bool; SLOT_LIMIT]) -> SlotNumber
         ensures answer { result ≡ first_permitted permitted.now (from_hand self.now.hand self.now.count) }
         ensures below { 0 < self.now.count → result < self.now.count }
     {
-        let mut passed = 0;
+        let mut places = 0..self.count;
         loop {
-            if passed == self.count {
+            let Some(passed) = places.next() else {
                 break 0;
-            }
+            };
             let slot = self.ahead(passed);
             if permitted[slot] {
                 break slot;
             }
-            passed += 1;
         }
     }
 
@@ -63,7 +62,7 @@ impl EvictionPolicy for Hand {
 
     ghost rule = { hand_rule };
 
-    ghost told_rearranges = { first_of (Prim.search rules, Prim.grind (arith, Self.row.coded.inj)) };
+    ghost told_rearranges = { kept_rearranges };
 
     ghost named_rearranges = { past_rearranges };
 
