@@ -1,5 +1,5 @@
 //! Flat memory.
-ghost use Rattle.std.specs.Prelude.{◌≡◌, true};
+ghost use Rattle.std.specs.Prelude.{◌≡◌};
 ghost use Rattle.memory.specs.Flat.{ToldWhole, flat, position_of};
 ghost use Rattle.std.proofs.Common.{rules};
 
@@ -16,6 +16,7 @@ pub struct Flat {
 
 impl Flat {
     /// Is the frame whole in the store? Where it is not, its cause is told.
+    // An `if` and not `then_some(()).ok_or(..)`, which says the same less plainly.
     fn whole(&self, frame: Frame) -> Result<(), Cause>
         ensures { ToldWhole self.now.store.items frame result }
     {
