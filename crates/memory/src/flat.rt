@@ -25,6 +25,7 @@ impl Flat {
     }
 
     /// Is the frame whole in the store? Where it is not, its cause is told.
+    // An `if` and not `then_some(()).ok_or(..)`, which says the same less plainly.
     fn whole(&self, frame: Frame) -> Result<(), Cause>
         ensures { ToldWhole self.now.store.items frame result }
     {

@@ -1,7 +1,7 @@
 //! 32-bit x86.
 ghost use Rattle.std.specs.Prelude.{◌≡◌};
 ghost use Rattle.paging.specs.Numbers.{kind_number, privilege_number, reading};
-ghost use Rattle.paging.specs.X86.{word_allows, x86, x86_allows, x86_due, x86_reads};
+ghost use Rattle.paging.specs.X86.{word_allows, x86, x86_due, x86_reads};
 ghost use Rattle.paging.specs.X86Laws as laws;
 ghost use Rattle.paging.specs.Marks.{once_by, last_by};
 ghost use Rattle.std.proofs.Common.{rules};

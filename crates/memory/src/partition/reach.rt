@@ -1,5 +1,4 @@
 //! A partition is a guest memory.
-ghost use Rattle.std.specs.Prelude.{◌≡◌};
 ghost use Rattle.memory.specs.Partition.{Built, parted};
 ghost use Rattle.std.proofs.Common.{rules};
 
@@ -15,7 +14,7 @@ impl<M> Partition<M> {
     pub fn new(memory: M, first: Frame, count: Frame) -> Result<Partition<M>, Refused<M>>
         ensures { Built memory first count result }
     {
-        if count == 0 || first > FRAME_LIMIT || count > FRAME_LIMIT - first {
+        if count == 0 || first.checked_add(count).is_none_or(|end| end > FRAME_LIMIT) {
             return Err(Refused {
                 refusal: Refusal::PartitionRange,
                 memory,
