@@ -3,18 +3,27 @@ ghost use Rattle.std.specs.Prelude.{◌≡◌, ◌%◌, if◌then◌else◌, nat
 ghost use Rattle.calls.specs.Gates.{count_gate, guarded};
 ghost use Rattle.calls.specs.Replies.{access_reply};
 ghost use Rattle.calls.specs.Views.{run_in, state_in};
+ghost use Rattle.calls.specs.declared.plain.AccessError.TheVariants.{Refused};
 ghost use Rattle.engine.specs.Views.{ended, run_of, state_of};
 ghost use Rattle.paging.specs.Numbers.{kind_number};
 ghost use Rattle.runs.specs.Unit.{access_ends, asked_in, refuse};
 
-use crate::plain::PlainMachine;
-use engine::engine::Outcome;
+use crate::plain::{AccessError, PlainMachine};
+use engine::engine::Through;
 use memory::guest::{GuestMemory, Word};
 use memory::refusal::Refusal;
 use paging::access::{Address, Kind};
 use paging::format::PageFormat;
 use policies::policy::EvictionPolicy;
-use walk::fault::Access;
+use walk::fault::{Access, Fault};
+
+impl<X> From<Refusal> for AccessError<X> {
+    ghost from_gives = { λ e r. r ≡ Refused e };
+
+    fn from(refusal: Refusal) -> AccessError<X> {
+        AccessError::Refused(refusal)
+    }
+}
 
 impl<M: GuestMemory, P: EvictionPolicy> PlainMachine<M, P> {
     /// A load, a store of the word, or a fetch.
@@ -23,18 +32,20 @@ impl<M: GuestMemory, P: EvictionPolicy> PlainMachine<M, P> {
         kind: Kind,
         address: Address,
         word: Word,
-    ) -> Result<Outcome, Refusal>
+    ) -> Result<Through, AccessError<Fault>>
         ensures { ended (access_reply result) (state_in M.GuestMemory P.EvictionPolicy self.new) ≡ guarded (state_in M.GuestMemory P.EvictionPolicy self.old) (if nat_eq (address % 4) 0 then access_ends P.EvictionPolicy.rule F.PageFormat.format (state_of M.GuestMemory P.EvictionPolicy self.old.engine) (run_of P.EvictionPolicy self.old.engine) (asked_in (run_of P.EvictionPolicy self.old.engine) (kind_number kind) address) word else refuse (state_in M.GuestMemory P.EvictionPolicy self.old) 5) (count_gate (run_in P.EvictionPolicy self.old)) }
     {
         self.ready_to_count()?;
         if address % 4 != 0 {
-            return Err(Refusal::Unaligned);
+            return Err(Refusal::Unaligned.into());
         }
         let access = Access {
             address,
             kind,
             privilege: self.engine.hart.mode,
         };
-        Ok(self.engine.access::<F>(access, word))
+        self.engine
+            .access::<F>(access, word)
+            .map_err(AccessError::Faulted)
     }
 }

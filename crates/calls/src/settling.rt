@@ -21,13 +21,11 @@ impl<M: GuestMemory, P: EvictionPolicy> PlainMachine<M, P> {
         ensures refusal { refused_with result ≡ settle_gate (fault_numbers fault) (run_in P.EvictionPolicy self.now) }
         ensures running { is_ok result ≡ true → self.now.running ≡ true }
     {
-        if !self.running {
-            return Err(Refusal::NoRun);
+        let hart = self.hart()?;
+        if !hart.pending.is_some_and(|pending| pending == fault) {
+            return Err(Refusal::OtherFault);
         }
-        match self.engine.hart.pending {
-            Some(pending) if pending == fault => Ok(()),
-            _ => Err(Refusal::OtherFault),
-        }
+        Ok(())
     }
 
     pub fn set_mode(&mut self, mode: Privilege) -> Result<(), Refusal>
@@ -38,6 +36,7 @@ impl<M: GuestMemory, P: EvictionPolicy> PlainMachine<M, P> {
         Ok(())
     }
 
+    // Two calls with two contracts: what they share is the check above.
     pub fn deliver(&mut self, fault: Fault) -> Result<(), Refusal>
         ensures { ended (quiet_reply result) (state_in M.GuestMemory P.EvictionPolicy self.new) ≡ guarded (state_in M.GuestMemory P.EvictionPolicy self.old) (settled_as (state_of M.GuestMemory P.EvictionPolicy self.old.engine) (run_of P.EvictionPolicy self.old.engine) (Some (record { address = fault.address; code = fault.code }))) (settle_gate (fault_numbers fault) (run_in P.EvictionPolicy self.old)) }
     {

@@ -1,5 +1,5 @@
 //! Runs opened and closed, and words poked between them, refused where they are to be.
-ghost use Rattle.std.specs.Prelude.{◌≡◌, ◌||◌, ltb, if◌then◌else◌, None, nat_lt};
+ghost use Rattle.std.specs.Prelude.{◌≡◌, ◌||◌, if◌then◌else◌, None, nat_lt};
 ghost use Rattle.calls.specs.Gates.{guarded, idle_gate, ready_gate};
 ghost use Rattle.calls.specs.Replies.{close_reply, quiet_reply};
 ghost use Rattle.calls.specs.Views.{run_in, state_in};
@@ -18,12 +18,12 @@ use policies::policy::EvictionPolicy;
 
 impl<M: GuestMemory, P: EvictionPolicy> PlainMachine<M, P> {
     pub fn open(&mut self, root: Frame, slots: usize) -> Result<(), Refusal>
-        ensures { ended (quiet_reply result) (state_in M.GuestMemory P.EvictionPolicy self.new) ≡ guarded (state_in M.GuestMemory P.EvictionPolicy self.old) (if ltb slots 2 || nat_lt 8 slots then refuse (state_in M.GuestMemory P.EvictionPolicy self.old) 4 else (if has_words (M.GuestMemory.frames self.old.engine.memory root) then ended (done no_exit) (opened_at P.EvictionPolicy.rule (M.GuestMemory.frames self.old.engine.memory) root slots) else refuse (state_in M.GuestMemory P.EvictionPolicy self.old) 3)) (idle_gate self.old.running) }
+        ensures { ended (quiet_reply result) (state_in M.GuestMemory P.EvictionPolicy self.new) ≡ guarded (state_in M.GuestMemory P.EvictionPolicy self.old) (if nat_lt slots 2 || nat_lt 8 slots then refuse (state_in M.GuestMemory P.EvictionPolicy self.old) 4 else (if has_words (M.GuestMemory.frames self.old.engine.memory root) then ended (done no_exit) (opened_at P.EvictionPolicy.rule (M.GuestMemory.frames self.old.engine.memory) root slots) else refuse (state_in M.GuestMemory P.EvictionPolicy self.old) 3)) (idle_gate self.old.running) }
     {
         if self.running {
             return Err(Refusal::RunOpen);
         }
-        if slots < 2 || slots > 8 {
+        if !(2..=8).contains(&slots) {
             return Err(Refusal::SlotCount);
         }
         if !has_words(&self.engine.memory, root) {
@@ -43,7 +43,7 @@ impl<M: GuestMemory, P: EvictionPolicy> PlainMachine<M, P> {
     }
 
     pub fn poke(&mut self, frame: Frame, index: u32, word: Word) -> Result<(), Refusal>
-        ensures { ended (quiet_reply result) (state_in M.GuestMemory P.EvictionPolicy self.new) ≡ guarded (state_in M.GuestMemory P.EvictionPolicy self.old) (if ltb 1023 index then refuse (state_in M.GuestMemory P.EvictionPolicy self.old) 8 else (if has_words (M.GuestMemory.frames self.old.engine.memory frame) then ended (done no_exit) (record { memory = stored (M.GuestMemory.frames self.old.engine.memory) frame index word; run = None }) else refuse (state_in M.GuestMemory P.EvictionPolicy self.old) 3)) (idle_gate self.old.running) }
+        ensures { ended (quiet_reply result) (state_in M.GuestMemory P.EvictionPolicy self.new) ≡ guarded (state_in M.GuestMemory P.EvictionPolicy self.old) (if nat_lt 1023 index then refuse (state_in M.GuestMemory P.EvictionPolicy self.old) 8 else (if has_words (M.GuestMemory.frames self.old.engine.memory frame) then ended (done no_exit) (record { memory = stored (M.GuestMemory.frames self.old.engine.memory) frame index word; run = None }) else refuse (state_in M.GuestMemory P.EvictionPolicy self.old) 3)) (idle_gate self.old.running) }
     {
         if self.running {
             return Err(Refusal::RunOpen);

@@ -1,23 +1,18 @@
 -- Single steps of an access that comes through.
-use Rattle.std.specs.Prelude.{◌≡◌, ℕ, cond, List, [], ◌∷◌, Ok, Err, Result, ◌==◌}
+use Rattle.std.specs.Prelude.{ℕ, cond, List, [], ◌∷◌, ◌==◌}
 use Rattle.memory.specs.Memory.{Memory}
 use Rattle.mmu.specs.Numbers.{exit_number}
 use Rattle.paging.specs.Formats.{Format}
 use Rattle.paging.specs.Terms.{directory_level, store}
 use Rattle.policies.specs.Orders.{Rule}
 use Rattle.runs.specs.Laws.{word_at}
-use Rattle.runs.specs.Terms.{through}
-use Rattle.runs.specs.Unit.{Running, State, Taken, Traced, linked, new_place, one_if, root_slot, tell_path, thing_named, traced, walk_ends}
+use Rattle.runs.specs.Unit.{Taken, Traced, linked, new_place, one_if, root_slot, tell_path, thing_named, traced}
 use Rattle.shadow.specs.Slots.{put_place}
 use Rattle.shadow.specs.declared.slots.SlotTable.{SlotTable}
 use Rattle.slot.specs.declared.slots.Thing.{Thing}
 use Rattle.walk.specs.Marking.{Write}
-use Rattle.walk.specs.Numbers.{fault_numbers}
-use Rattle.walk.specs.Walk.{Asked, directory_index, faulted, table_index, walk_from, word_index}
-use Rattle.walk.specs.declared.fault.Fault.{Fault}
-use Rattle.engine.specs.Views.{ended, through_of}
+use Rattle.walk.specs.Walk.{Asked, directory_index, table_index, word_index}
 use Rattle.engine.specs.declared.engine.Passage.{Passage}
-use Rattle.engine.specs.declared.engine.Through.{Through}
 
 -- the write of a store that reaches frame f
 abbrev pub store_at : Asked → ℕ → ℕ → List Write
@@ -50,8 +45,3 @@ module _ (R : Rule) where
 
     abbrev pub pathed : Memory → ℕ → Asked → ℕ → SlotTable → List ℕ → Passed
     pathed m root a f t o = pathed_by m root a f t o (word_at m root (directory_index a.address))
-
--- What an access that walks comes to: by the outcome of the walk, it comes through, or faults.
-abbrev pub Reached : Rule → Format → State → Running → Asked → ℕ → State → Result Through Fault → Type 0
-Reached R F s r a w t (Ok x) = ended (through (through_of x)) t ≡ walk_ends R F s r a w (walk_from F a s.memory r.hart.root)
-Reached R F s r a w t (Err f) = faulted (fault_numbers f) ≡ walk_from F a s.memory r.hart.root

@@ -1,5 +1,5 @@
 -- What an engine is, as a run of the unit.
-use Rattle.std.specs.Prelude.{Some, None, Option}
+use Rattle.std.specs.Prelude.{Some, None, Ok, Err, Option, Result}
 use Rattle.memory.specs.declared.guest.GuestMemory
 use Rattle.policies.specs.declared.policy.EvictionPolicy
 use Rattle.mmu.specs.Numbers.{exit_number}
@@ -16,8 +16,6 @@ use Rattle.engine.specs.Numbers.{tallied}
 use Rattle.engine.specs.declared.engine.Engine.{Engine}
 use Rattle.engine.specs.declared.engine.FaultRecord.{FaultRecord}
 use Rattle.engine.specs.declared.engine.Hart.{Hart}
-use Rattle.engine.specs.declared.engine.Outcome.{Outcome}
-use Rattle.engine.specs.declared.engine.Outcome.TheVariants as outcome
 use Rattle.engine.specs.declared.engine.Through.{Through}
 
 abbrev pub pending_fault : Option Fault → Option Failure
@@ -48,9 +46,9 @@ state_of memory policy e = record { memory = memory.frames e.memory; run = Some 
 abbrev pub through_of : Through → terms.Through
 through_of x = record { target = x.frame; marks = marks_writes x.marks; value = x.value; exit = exit_number x.exit }
 
-abbrev pub outcome_reply : Outcome → Reply
-outcome_reply (outcome.Through x) = through (through_of x)
-outcome_reply (outcome.Faulted f) = terms.faulted (fault_numbers f)
+abbrev pub outcome_reply : Result Through Fault → Reply
+outcome_reply (Ok x) = through (through_of x)
+outcome_reply (Err f) = terms.faulted (fault_numbers f)
 
 abbrev pub ended : Reply → State → Ended
 ended r s = record { reply = r; next = s }

@@ -1,14 +1,11 @@
 //! Accesses.
-ghost use Rattle.std.specs.Prelude.{◌≡◌, ◌<◌, false, is_ok, None};
-ghost use Rattle.engine.specs.Steps.{Reached};
+ghost use Rattle.std.specs.Prelude.{◌≡◌, ◌<◌, None};
 ghost use Rattle.engine.specs.Views.{ended, outcome_reply, run_of, state_of, through_of};
-ghost use Rattle.hits.specs.Hits.{copied_at};
-ghost use Rattle.runs.specs.Terms.{through};
-ghost use Rattle.runs.specs.Unit.{access_by, access_ends, fault_ends, hit_by, hit_ends, root_slot, walk_ends};
-ghost use Rattle.walk.specs.Walk.{directory_index, table_index};
-ghost use Rattle.walk.specs.Numbers.{asked, fault_numbers, outcome, walked_outcome};
+ghost use Rattle.runs.specs.Terms.{faulted, through};
+ghost use Rattle.runs.specs.Unit.{access_by, access_ends, fault_ends, hit_ends, root_slot, walk_ends};
+ghost use Rattle.walk.specs.Numbers.{asked, fault_numbers, walked_outcome};
 
-use crate::engine::{Engine, Outcome, Through};
+use crate::engine::{Engine, Through};
 use crate::following::follow;
 use crate::touching::touch;
 use memory::guest::{Frame, GuestMemory, Word};
@@ -22,6 +19,9 @@ use walk::marking::{Marks, mark_entries};
 use walk::path::{Walked, directory_index};
 use walk::walking::walk;
 
+// That fewer calls than the limit were counted holds before a counted call and not always after it, so no type can hold it.
+// Access and word stay apart: the walk, the marks and the slots take the access alone, and a struct of both would be
+// taken apart in each of these.
 impl<M: GuestMemory, P: EvictionPolicy> Engine<M, P> {
     /// An access that the slots answer, from the slot of the root's directory on.
     fn hit(&mut self, access: Access, word: Word, frame: Frame, directory: SlotNumber) -> Through
@@ -67,53 +67,36 @@ impl<M: GuestMemory, P: EvictionPolicy> Engine<M, P> {
     /// An access that walked and faulted: the fault waits.
     fn fault(&mut self, fault: Fault)
         requires { self.old.hart.tally.figures.calls < 16777216 }
-        ensures { ended (outcome_reply (Outcome.Faulted fault)) (state_of M.GuestMemory P.EvictionPolicy self.new) ≡ fault_ends (state_of M.GuestMemory P.EvictionPolicy self.old) (run_of P.EvictionPolicy self.old) (fault_numbers fault) }
+        ensures { ended (faulted (fault_numbers fault)) (state_of M.GuestMemory P.EvictionPolicy self.new) ≡ fault_ends (state_of M.GuestMemory P.EvictionPolicy self.old) (run_of P.EvictionPolicy self.old) (fault_numbers fault) }
     {
         self.hart.pending = Some(fault);
         self.hart.tally.count(Exit::True, false);
     }
 
-    /// An access that walks, and comes through unless the walk faults.
-    fn reach<F: PageFormat>(&mut self, access: Access, word: Word) -> Result<Through, Fault>
-        requires { self.old.hart.tally.figures.calls < 16777216 }
-        ensures reached { Reached P.EvictionPolicy.rule F.PageFormat.format (state_of M.GuestMemory P.EvictionPolicy self.old) (run_of P.EvictionPolicy self.old) (asked access) word (state_of M.GuestMemory P.EvictionPolicy self.new) result }
-        ensures kept { is_ok result ≡ false → self.new ≡ self.old }
-    {
-        let walked = walk::<F, M>(&self.memory, self.hart.root, access)?;
-        Ok(self.come_through::<F>(access, word, walked))
-    }
-
-    /// An access that the slots do not answer.
-    fn miss<F: PageFormat>(&mut self, access: Access, word: Word) -> Outcome
+    /// An access that the slots do not answer: it walks. A fault of the walk waits.
+    fn miss<F: PageFormat>(&mut self, access: Access, word: Word) -> Result<Through, Fault>
         requires { self.old.hart.tally.figures.calls < 16777216 }
         ensures { ended (outcome_reply result) (state_of M.GuestMemory P.EvictionPolicy self.new) ≡ access_by P.EvictionPolicy.rule F.PageFormat.format (state_of M.GuestMemory P.EvictionPolicy self.old) (run_of P.EvictionPolicy self.old) (asked access) word None }
     {
-        match self.reach::<F>(access, word) {
-            Ok(through) => Outcome::Through(through),
+        match walk::<F, M>(&self.memory, self.hart.root, access) {
+            Ok(walked) => Ok(self.come_through::<F>(access, word, walked)),
             Err(fault) => {
                 self.fault(fault);
-                Outcome::Faulted(fault)
+                Err(fault)
             }
         }
     }
 
-    /// An access, by the slots or by a walk.
-    fn go<F: PageFormat>(&mut self, access: Access, word: Word) -> Outcome
-        requires { self.old.hart.tally.figures.calls < 16777216 }
-        ensures { ended (outcome_reply result) (state_of M.GuestMemory P.EvictionPolicy self.new) ≡ access_by P.EvictionPolicy.rule F.PageFormat.format (state_of M.GuestMemory P.EvictionPolicy self.old) (run_of P.EvictionPolicy self.old) (asked access) word (hit_by F.PageFormat.format (asked access) (copied_at (root_slot self.old.hart.root self.old.mmu.table) (directory_index access.address) (table_index access.address) self.old.mmu.table)) }
-    {
-        let directory = self.mmu.root_slot(self.hart.root);
-        match self.mmu.hit_from::<F>(access, directory) {
-            Some(frame) => Outcome::Through(self.hit(access, word, frame, directory)),
-            None => self.miss::<F>(access, word),
-        }
-    }
-
-    /// An access, charged with its exit.
-    pub fn access<F: PageFormat>(&mut self, access: Access, word: Word) -> Outcome
+    /// An access, by the slots or by a walk, charged with its exit.
+    #[tactic(auto, unfolding(runs::specs::Unit::access_ends, runs::specs::Unit::hit_target))]
+    pub fn access<F: PageFormat>(&mut self, access: Access, word: Word) -> Result<Through, Fault>
         requires { self.old.hart.tally.figures.calls < 16777216 }
         ensures { ended (outcome_reply result) (state_of M.GuestMemory P.EvictionPolicy self.new) ≡ access_ends P.EvictionPolicy.rule F.PageFormat.format (state_of M.GuestMemory P.EvictionPolicy self.old) (run_of P.EvictionPolicy self.old) (asked access) word }
     {
-        self.go::<F>(access, word)
+        let directory = self.mmu.root_slot(self.hart.root);
+        match self.mmu.hit_from::<F>(access, directory) {
+            Some(frame) => Ok(self.hit(access, word, frame, directory)),
+            None => self.miss::<F>(access, word),
+        }
     }
 }

@@ -52,10 +52,3 @@ pub struct Passage {
     pub exit: Exit,
     pub evicted: bool,
 }
-
-/// What an accepted access came to.
-#[derive(Clone, Copy)]
-pub enum Outcome {
-    Through(Through),
-    Faulted(Fault),
-}

@@ -1,11 +1,9 @@
 //! Link and leaf of an access that walked and came through.
-ghost use Rattle.std.specs.Prelude.{◌≡◌, ◌==◌};
+ghost use Rattle.std.specs.Prelude.{◌≡◌};
 ghost use Rattle.engine.specs.Steps.{entered, passed_by, pathed};
 ghost use Rattle.mmu.specs.Numbers.{took, traced_by};
-ghost use Rattle.paging.specs.Numbers.{kind_number};
-ghost use Rattle.paging.specs.Terms.{directory_level, store};
-ghost use Rattle.runs.specs.Laws.{word_at};
-ghost use Rattle.runs.specs.Unit.{linked, new_place, root_slot, thing_named, traced};
+ghost use Rattle.paging.specs.Terms.{directory_level};
+ghost use Rattle.runs.specs.Unit.{new_place, thing_named, traced};
 ghost use Rattle.shadow.specs.Slots.{put_place};
 ghost use Rattle.walk.specs.Numbers.{asked};
 ghost use Rattle.walk.specs.Walk.{directory_index, table_index};
@@ -34,15 +32,6 @@ fn thing_named<F: PageFormat>(word: Word) -> Thing
     }
 }
 
-fn is_store(kind: Kind) -> bool
-    ensures { result ≡ (kind_number kind == store) }
-{
-    match kind {
-        Kind::Store => true,
-        Kind::Load | Kind::Fetch => false,
-    }
-}
-
 /// Writes the leaf of a table with its present word, or the piece of a split. Only a store leaves it open to stores.
 fn write_place<M: GuestMemory>(
     table: &mut SlotTable,
@@ -55,7 +44,7 @@ fn write_place<M: GuestMemory>(
     ensures { table.new ≡ put_place slot (table_index access.address) (new_place (M.GuestMemory.frames memory.now) (asked access) frame thing) table.old }
 {
     let index = table_index(access.address);
-    let writable = is_store(access.kind);
+    let writable = access.kind == Kind::Store;
     match thing {
         Thing::Directory(_) => table.empty_place(slot, index as usize),
         Thing::Table(of) => {

@@ -11,6 +11,17 @@ use paging::access::Privilege;
 use policies::policy::EvictionPolicy;
 use walk::fault::Fault;
 
+impl From<Fault> for FaultRecord {
+    ghost from_gives = { λ f r. r ≡ record { address = f.address; code = f.code } };
+
+    fn from(fault: Fault) -> FaultRecord {
+        FaultRecord {
+            address: fault.address,
+            code: fault.code,
+        }
+    }
+}
+
 impl<M: GuestMemory, P: EvictionPolicy> Engine<M, P> {
     /// Sets the privilege.
     pub fn set_mode(&mut self, mode: Privilege)
@@ -31,10 +42,7 @@ impl<M: GuestMemory, P: EvictionPolicy> Engine<M, P> {
     pub fn deliver(&mut self, fault: Fault)
         ensures { ended (done no_exit) (state_of M.GuestMemory P.EvictionPolicy self.new) ≡ settled_as (state_of M.GuestMemory P.EvictionPolicy self.old) (run_of P.EvictionPolicy self.old) (Some (record { address = fault.address; code = fault.code })) }
     {
-        self.settle(Some(FaultRecord {
-            address: fault.address,
-            code: fault.code,
-        }));
+        self.settle(Some(fault.into()));
     }
 
     /// Lets the fault that waits go. The guest is told nothing.

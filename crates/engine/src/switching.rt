@@ -1,11 +1,8 @@
 //! Switches of the root, and openings.
-ghost use Rattle.std.specs.Prelude.{◌≡◌, ◌<◌, ◌≤◌, None};
+ghost use Rattle.std.specs.Prelude.{◌≡◌, ◌<◌, ◌≤◌};
 ghost use Rattle.engine.specs.Views.{ended, run_of, state_of};
-ghost use Rattle.policies.specs.Orders.{numbered};
 ghost use Rattle.runs.specs.Terms.{done, switch};
-ghost use Rattle.runs.specs.Unit.{obtain, opened_at, opened_with, resync_all, switch_ends, switched_to, take_slot};
-ghost use Rattle.shadow.specs.Slots.{fresh};
-ghost use Rattle.slot.specs.declared.slots.Thing.TheVariants as thing;
+ghost use Rattle.runs.specs.Unit.{opened_at, switch_ends};
 
 use crate::engine::{Engine, Hart};
 use crate::tallies::Tally;
@@ -17,9 +14,11 @@ use shadow::slots::SlotTable;
 use slot::slots::Thing;
 
 impl<M: GuestMemory, P: EvictionPolicy> Engine<M, P> {
-    fn switch_to(&mut self, root: Frame)
+    /// Checks every unsynchronised table, and puts another root in force.
+    #[tactic(auto, unfolding(runs::specs::Unit::switch_ends))]
+    pub fn switch(&mut self, root: Frame)
         requires { self.old.hart.tally.figures.calls < 16777216 }
-        ensures { ended (done switch) (state_of M.GuestMemory P.EvictionPolicy self.new) ≡ switched_to (state_of M.GuestMemory P.EvictionPolicy self.old) (run_of P.EvictionPolicy self.old) root (obtain P.EvictionPolicy.rule (M.GuestMemory.frames self.old.memory) None (thing.Directory root) (resync_all (M.GuestMemory.frames self.old.memory) self.old.mmu.table) (P.EvictionPolicy.order self.old.mmu.policy)) }
+        ensures { ended (done switch) (state_of M.GuestMemory P.EvictionPolicy self.new) ≡ switch_ends P.EvictionPolicy.rule (state_of M.GuestMemory P.EvictionPolicy self.old) (run_of P.EvictionPolicy self.old) root }
     {
         self.mmu.resync_all(&self.memory);
         let taken = self.mmu.obtain(&self.memory, None, Thing::Directory(root));
@@ -27,17 +26,11 @@ impl<M: GuestMemory, P: EvictionPolicy> Engine<M, P> {
         self.hart.tally.count(Exit::Switch, taken.evicted);
     }
 
-    /// Checks every unsynchronised table, and puts another root in force.
-    pub fn switch(&mut self, root: Frame)
-        requires { self.old.hart.tally.figures.calls < 16777216 }
-        ensures { ended (done switch) (state_of M.GuestMemory P.EvictionPolicy self.new) ≡ switch_ends P.EvictionPolicy.rule (state_of M.GuestMemory P.EvictionPolicy self.old) (run_of P.EvictionPolicy self.old) root }
-    {
-        self.switch_to(root);
-    }
-
-    fn start(&mut self, root: Frame, count: usize)
+    /// Begins a run: slots, order and figures afresh, in supervisor mode, with the root's directory taken.
+    #[tactic(auto, unfolding(runs::specs::Unit::opened_at))]
+    pub fn open(&mut self, root: Frame, count: usize)
         requires { count ≤ 8 }
-        ensures { state_of M.GuestMemory P.EvictionPolicy self.new ≡ opened_with (M.GuestMemory.frames self.old.memory) root (take_slot P.EvictionPolicy.rule (M.GuestMemory.frames self.old.memory) None (thing.Directory root) (fresh count) (numbered count)) }
+        ensures { state_of M.GuestMemory P.EvictionPolicy self.new ≡ opened_at P.EvictionPolicy.rule (M.GuestMemory.frames self.old.memory) root count }
     {
         self.mmu.table = SlotTable::new(count);
         self.mmu.policy.start(count);
@@ -49,13 +42,5 @@ impl<M: GuestMemory, P: EvictionPolicy> Engine<M, P> {
             last: None,
             tally: Tally::new(),
         };
-    }
-
-    /// Begins a run: slots, order and figures afresh, in supervisor mode, with the root's directory taken.
-    pub fn open(&mut self, root: Frame, count: usize)
-        requires { count ≤ 8 }
-        ensures { state_of M.GuestMemory P.EvictionPolicy self.new ≡ opened_at P.EvictionPolicy.rule (M.GuestMemory.frames self.old.memory) root count }
-    {
-        self.start(root, count);
     }
 }

@@ -5,7 +5,7 @@ ghost use Rattle.std.specs.Prelude.{◌≡◌, ◌+◌, ◌≤◌};
 pub const CALL_LIMIT: u32 = 16_777_216;
 
 /// The figures of a run.
-#[derive(Clone, Copy, PartialEq, Eq, Debug)]
+#[derive(Clone, Copy, Default, PartialEq, Eq, Debug)]
 pub struct Tallies {
     /// Accesses, flushes and switches.
     pub calls: u32,

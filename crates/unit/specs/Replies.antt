@@ -9,21 +9,19 @@ use Rattle.runs.specs.Unit.{RecordedFault, Running}
 use Rattle.engine.specs.Numbers.{tallied}
 use Rattle.engine.specs.Views.{through_of, told_fault}
 use Rattle.engine.specs.declared.engine.FaultRecord.{FaultRecord}
-use Rattle.unit.specs.declared.answers.Answer.{Answer}
-use Rattle.unit.specs.declared.answers.Answer.TheVariants as answer
+use Rattle.engine.specs.declared.engine.Through.{Through}
+use Rattle.calls.specs.declared.plain.AccessError.{AccessError}
+use Rattle.calls.specs.declared.plain.AccessError.TheVariants as error
 use Rattle.unit.specs.declared.answers.StillRunning.{StillRunning}
 use Rattle.unit.specs.declared.answers.Unsettled.{Unsettled}
 use Rattle.unit.specs.declared.tokens.ClosedToken.{ClosedToken}
 use Rattle.unit.specs.declared.tokens.PendingFault.{PendingFault}
 use Rattle.unit.specs.declared.tokens.RunningToken.{RunningToken}
 
-abbrev pub answer_reply : Answer → Reply
-answer_reply (answer.Through x) = through (through_of x)
-answer_reply (answer.Faulted f) = terms.faulted (fault_numbers f.fault)
-
-abbrev pub access_reply : Result Answer Refusal → Reply
-access_reply (Ok a) = answer_reply a
-access_reply (Err e) = refused (refusal_number e)
+abbrev pub access_reply : Result Through (AccessError PendingFault) → Reply
+access_reply (Ok x) = through (through_of x)
+access_reply (Err (error.Refused e)) = refused (refusal_number e)
+access_reply (Err (error.Faulted f)) = terms.faulted (fault_numbers f.fault)
 
 abbrev pub open_reply : Result RunningToken Refusal → Reply
 open_reply (Ok t) = done no_exit

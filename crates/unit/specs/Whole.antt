@@ -8,12 +8,15 @@ use Rattle.paging.specs.Terms.{fetch, load, store}
 use Rattle.paging.specs.declared.format.PageFormat
 use Rattle.policies.specs.declared.policy.EvictionPolicy
 use Rattle.walk.specs.Numbers.{fault_numbers}
+use Rattle.walk.specs.declared.fault.Fault.{Fault}
 use Rattle.runs.specs.Laws.{LawfulRun}
 use Rattle.runs.specs.Runs.{left_by, replies_to_close}
 use Rattle.runs.specs.Terms as terms
 use Rattle.runs.specs.Unit.{opened_at, step}
 use Rattle.engine.specs.Numbers.{tallied}
 use Rattle.engine.specs.Views.{ended, through_of}
+use Rattle.calls.specs.declared.plain.AccessError.{AccessError}
+use Rattle.calls.specs.declared.plain.AccessError.TheVariants as access_error
 use Rattle.unit.specs.Promises.{memory_of, opening, view}
 use Rattle.unit.specs.declared.machine.Machine.{Machine}
 use Rattle.unit.specs.declared.requests.Call.{Call}
@@ -43,6 +46,11 @@ reply_of (reply.Through x) = terms.through (through_of x)
 reply_of (reply.Faulted x) = terms.faulted (fault_numbers x)
 reply_of (reply.Done x) = terms.done (exit_number x)
 reply_of (reply.Closed t) = terms.closed (tallied t)
+
+-- how an access that did not come through is answered
+abbrev pub error_reply : AccessError Fault → Reply
+error_reply (access_error.Refused e) = reply.Refused e
+error_reply (access_error.Faulted f) = reply.Faulted f
 
 abbrev pub calls_of : List Call → List terms.Call
 calls_of cs = map call_of cs

@@ -1,13 +1,6 @@
 //! What the machine's calls answer.
 use crate::tokens::{PendingFault, RunningToken};
-use engine::engine::Through;
 use memory::refusal::Refusal;
-
-/// What an accepted access came to. A fault is handed out as a token.
-pub enum Answer {
-    Through(Through),
-    Faulted(PendingFault),
-}
 
 /// A settlement that was refused, with the fault handed back.
 pub struct Unsettled {

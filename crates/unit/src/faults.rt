@@ -1,5 +1,6 @@
 //! Faults settled, and what the guest was told of them.
 ghost use Rattle.std.specs.Prelude.{◌≡◌, true, is_ok, Some};
+ghost use Rattle.calls.specs.Replies.{quiet_reply};
 ghost use Rattle.calls.specs.Views.{run_in};
 ghost use Rattle.runs.specs.Terms.{deliver, give_up};
 ghost use Rattle.unit.specs.Faults.{waiting};
@@ -26,6 +27,21 @@ impl PendingFault {
     }
 }
 
+/// Takes a fault by what its settlement was answered, or hands it back.
+fn take(fault: PendingFault, res: Result<(), Refusal>) -> Result<(), Unsettled>
+    ensures reply { settle_reply result ≡ quiet_reply res }
+    ensures settles { is_ok result ≡ is_ok res }
+    ensures back { FaultBack fault result }
+{
+    match res {
+        Ok(()) => {
+            let PendingFault { fault: _ } = fault;
+            Ok(())
+        }
+        Err(refusal) => Err(Unsettled { refusal, fault }),
+    }
+}
+
 impl<M: GuestMemory, F: PageFormat, P: EvictionPolicy> Machine<M, F, P> {
     /// Delivers a fault: the guest is told of it.
     pub fn deliver(&mut self, fault: PendingFault) -> Result<(), Unsettled>
@@ -33,11 +49,8 @@ impl<M: GuestMemory, F: PageFormat, P: EvictionPolicy> Machine<M, F, P> {
         ensures settles { waiting (view M.GuestMemory F.PageFormat P.EvictionPolicy self.old) ≡ Some (fault_numbers fault.fault) → is_ok result ≡ true }
         ensures back { FaultBack fault result }
     {
-        if let Err(refusal) = self.step_deliver(fault.fault) {
-            return Err(Unsettled { refusal, fault });
-        }
-        let PendingFault { fault: _ } = fault;
-        Ok(())
+        let res = self.step_deliver(fault.fault);
+        take(fault, res)
     }
 
     /// Gives a fault up: the guest is told nothing.
@@ -46,20 +59,14 @@ impl<M: GuestMemory, F: PageFormat, P: EvictionPolicy> Machine<M, F, P> {
         ensures settles { waiting (view M.GuestMemory F.PageFormat P.EvictionPolicy self.old) ≡ Some (fault_numbers fault.fault) → is_ok result ≡ true }
         ensures back { FaultBack fault result }
     {
-        if let Err(refusal) = self.step_give_up(fault.fault) {
-            return Err(Unsettled { refusal, fault });
-        }
-        let PendingFault { fault: _ } = fault;
-        Ok(())
+        let res = self.step_give_up(fault.fault);
+        take(fault, res)
     }
 
     /// What the guest was last told of a fault in this run.
     pub fn fault_record(&self) -> Result<Option<FaultRecord>, Refusal>
         ensures { record_told result ≡ record_asked (run_in P.EvictionPolicy self.now.plain) }
     {
-        if !self.plain.running {
-            return Err(Refusal::NoRun);
-        }
-        Ok(self.plain.engine.hart.last)
+        Ok(self.plain.hart()?.last)
     }
 }

@@ -8,7 +8,8 @@ ghost use Rattle.unit.specs.Promises.{Begun, Promised, view};
 ghost use Rattle.walk.specs.Numbers.{fault_numbers};
 
 use crate::machine::Machine;
-use engine::engine::Outcome;
+use calls::plain::AccessError;
+use engine::engine::Through;
 use engine::tallies::Tallies;
 use memory::guest::{Frame, GuestMemory, Word};
 use memory::refusal::Refusal;
@@ -24,7 +25,7 @@ impl<M: GuestMemory, F: PageFormat, P: EvictionPolicy> Machine<M, F, P> {
         kind: Kind,
         address: Address,
         word: Word,
-    ) -> Result<Outcome, Refusal>
+    ) -> Result<Through, AccessError<Fault>>
         ensures promise { Promised M.GuestMemory F.PageFormat P.EvictionPolicy (access (kind_number kind) address word) self.old (access_reply result) self.new }
         ensures waits { Waits (view M.GuestMemory F.PageFormat P.EvictionPolicy self.new) (access_reply result) }
     {
@@ -32,6 +33,7 @@ impl<M: GuestMemory, F: PageFormat, P: EvictionPolicy> Machine<M, F, P> {
         self.plain.access::<F>(kind, address, word)
     }
 
+    // Delivering and giving up are two calls with two contracts; what they share is the call that settles, in `calls`.
     pub(crate) fn step_deliver(&mut self, fault: Fault) -> Result<(), Refusal>
         ensures promise { Promised M.GuestMemory F.PageFormat P.EvictionPolicy (deliver (fault_numbers fault)) self.old (quiet_reply result) self.new }
         ensures settles { waiting (view M.GuestMemory F.PageFormat P.EvictionPolicy self.old) ≡ Some (fault_numbers fault) → is_ok result ≡ true }

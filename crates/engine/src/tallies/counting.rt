@@ -13,16 +13,7 @@ impl Tally {
         ensures { tallied result.figures ≡ no_tallies }
     {
         Tally {
-            figures: Tallies {
-                calls: 0,
-                hits: 0,
-                hidden: 0,
-                true_exits: 0,
-                trace: 0,
-                flush: 0,
-                switch: 0,
-                evictions: 0,
-            },
+            figures: Tallies::default(),
         }
     }
 
