@@ -36,13 +36,10 @@ impl Copied {
     fn is_marked<F: PageFormat>(self, kind: Kind) -> bool
         ensures { result ≡ marked F.PageFormat.format (kind_number kind) directory_level (copied_words self) }
     {
-        if F::mark(Level::Directory, kind, self.link) != self.link {
-            return false;
-        }
-        match self.leaf {
-            Some(leaf) => F::mark(Level::Table, kind, leaf) == leaf,
-            None => true,
-        }
+        F::mark(Level::Directory, kind, self.link) == self.link
+            && self
+                .leaf
+                .is_none_or(|leaf| F::mark(Level::Table, kind, leaf) == leaf)
     }
 
     /// Has the access the flag that it needs? Only a store needs it.
@@ -60,10 +57,9 @@ impl Copied {
     pub fn hit<F: PageFormat>(self, kind: Kind, privilege: Privilege) -> Option<Frame>
         ensures { result ≡ hit_of F.PageFormat.format (kind_number kind) (privilege_number privilege) (copied_words self) self.aim self.writable }
     {
-        if self.is_allowed::<F>(kind, privilege) && self.is_marked::<F>(kind) && self.passes(kind) {
-            Some(self.aim)
-        } else {
-            None
-        }
+        let hits = self.is_allowed::<F>(kind, privilege)
+            && self.is_marked::<F>(kind)
+            && self.passes(kind);
+        hits.then_some(self.aim)
     }
 }

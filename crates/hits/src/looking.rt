@@ -12,15 +12,16 @@ use slot::slots::{Place, Shadow, SlotNumber};
 fn copied_piece(link: Word, table_index: usize, writable: bool, below: Shadow) -> Option<Copied>
     ensures { result ≡ copied_piece link table_index writable below }
 {
-    match below {
-        Shadow::Split(first) if table_index <= (Frame::MAX - first) as usize => Some(Copied {
-            link,
-            leaf: None,
-            aim: first + table_index as Frame,
-            writable,
-        }),
-        _ => None,
-    }
+    let Shadow::Split(first) = below else {
+        return None;
+    };
+    let aim = first.checked_add(Frame::try_from(table_index).ok()?)?;
+    Some(Copied {
+        link,
+        leaf: None,
+        aim,
+        writable,
+    })
 }
 
 /// What slot `below` holds under a link of this word.
@@ -57,8 +58,8 @@ pub fn copied(
 ) -> Option<Copied>
     ensures { result ≡ copied_at directory directory_index table_index table.now }
 {
-    match table.place(directory, directory_index) {
-        Place::Link { word, slot } => copied_below(table, word, slot, table_index),
-        Place::Empty | Place::Leaf { .. } | Place::Piece { .. } => None,
-    }
+    let Place::Link { word, slot } = table.place(directory, directory_index) else {
+        return None;
+    };
+    copied_below(table, word, slot, table_index)
 }

@@ -1,1 +1,1 @@
-mod Searched
+pub mod Searched

@@ -1,31 +1,39 @@
--- A loop that looks for the first slot that passes.
-use Rattle.std.proofs.Common.{◌≡◌, ℕ, zero, suc, ◌+◌, ◌<◌, ◌≤◌, Bool, true, false, cond, List, [], ◌∷◌, length, get_or, take, Some, None, Option, sym, refl, ap, ◌∙◌, add-one, arith}
-use Rattle.std.proofs.lemmas.List.{take_all}
-use Rattle.slot.specs.Slot.{no_slot}
+-- The first slot that passes, as the library's words say it.
+use Rattle.std.proofs.Common.{◌≡◌, ℕ, zero, suc, ◌+◌, ◌≤◌, Bool, true, false, cond, ◌&&◌, ◌||◌, nat_lt, List, [], ◌∷◌, take, Some, None, is_some, refl, ap, sym, ◌∙◌, add-one, arith}
+use Rattle.std.specs.List.{list_any, position, position_from}
+use Rattle.std.proofs.lemmas.Bool.{lt-ltb, le-ltb}
+use Rattle.std.proofs.lemmas.Iterator.Adapters.{position_from-zero}
 use Rattle.slot.specs.declared.slots.Slot.{Slot}
-use Rattle.shadow.specs.Searches.{keep_first}
 use Rattle.shadow.specs.Slots.{first_from}
 
-module _ (p : ℕ → Slot → Bool) where
-  -- what the first i slots give
-  abbrev pub Searched : List Slot → ℕ → Option ℕ → Type 0
-  Searched ss i r = r ≡ first_from p 0 (take i ss)
+module _ (p : Slot → Bool) where
+  from : (k : ℕ) (ss : List Slot) → first_from (λ _ s. p s) k ss ≡ position_from p k ss
+  from k [] = refl
+  from k (s ∷ ss) =
+      ap (λ r. cond (p s) (Some k) r) (from (suc k) ss ∙ ap (λ n. position_from p n ss) (sym (add-one k)))
 
-  -- slot i of slots that begin at number k, which is number n
-  step : (ss : List Slot) (k i n : ℕ) → n ≡ k + i → i < length ss → keep_first n (p n (get_or ss i no_slot)) (first_from p k (take i ss)) ≡ first_from p k (take (suc i) ss)
-  step [] k i n e h = absurd (omega arith)
-  step (s ∷ ss) k zero n e h = let same : n ≡ k = omega arith in ap (λ m. cond (p m s) (Some m) None) same
-  step (s ∷ ss) k (suc i) n e h =
-      let rest : keep_first n (p n (get_or ss i no_slot)) (first_from p (suc k) (take i ss)) ≡ first_from p (suc k) (take (suc i) ss) = step ss (suc k) i n (omega arith) (omega arith) in
-      elim (p k s) as (λ b. keep_first n (p n (get_or ss i no_slot)) (cond b (Some k) (first_from p (suc k) (take i ss))) ≡ cond b (Some k) (first_from p (suc k) (take (suc i) ss))) [ true ↦ refl | false ↦ rest ]
+  pub first_by_position : (ss : List Slot) → position p ss ≡ first_from (λ _ s. p s) 0 ss
+  first_by_position ss = position_from-zero p ss ∙ sym (from 0 ss)
 
-  pub searched_more : (ss : List Slot) (i : ℕ) (b : Bool) (r q : Option ℕ) → i < length ss → Searched ss i r → b ≡ p i (get_or ss i no_slot) → q ≡ keep_first i b r → Searched ss (i + 1) q
-  searched_more ss i b r q h e f v =
-      v
-      ∙ ap (λ t. keep_first i t r) f
-      ∙ ap (keep_first i (p i (get_or ss i no_slot))) e
-      ∙ step ss 0 i i (omega arith) h
-      ∙ ap (λ n. first_from p 0 (take n ss)) (sym (add-one i))
+  none_from : (n k : ℕ) (ss : List Slot) → n ≤ k → first_from (λ j s. nat_lt j n && p s) k ss ≡ None
+  none_from n k [] h = refl
+  none_from n k (s ∷ ss) h = rw (le-ltb k n h) (none_from n (suc k) ss (omega arith))
 
-  pub searched_all : (ss : List Slot) (i : ℕ) (r : Option ℕ) → length ss ≤ i → Searched ss i r → r ≡ first_from p 0 ss
-  searched_all ss i r h e = e ∙ ap (first_from p 0) (take_all i ss h)
+  below : (n k m : ℕ) (ss : List Slot) → n ≡ k + m → first_from (λ _ s. p s) k (take m ss) ≡ first_from (λ j s. nat_lt j n && p s) k ss
+  below n k zero ss e = sym (none_from n k ss (omega arith))
+  below n k (suc m) [] e = refl
+  below n k (suc m) (s ∷ ss) e =
+      rw (lt-ltb k n (omega arith)) (ap (λ r. cond (p s) (Some k) r) (below n (suc k) m ss (omega arith)))
+
+  -- among the first n
+  pub first_below_by_position : (n : ℕ) (ss : List Slot) → position p (take n ss) ≡ first_from (λ k s. nat_lt k n && p s) 0 ss
+  first_below_by_position n ss = first_by_position (take n ss) ∙ below n 0 n ss (omega arith)
+
+  any_from : (k : ℕ) (ss : List Slot) → list_any p ss ≡ is_some (first_from (λ _ s. p s) k ss)
+  any_from k [] = refl
+  any_from k (s ∷ ss) =
+      elim (p s) as (λ b. b || list_any p ss ≡ is_some (cond b (Some k) (first_from (λ _ s. p s) (suc k) ss)))
+      [ true ↦ refl | false ↦ any_from (suc k) ss ]
+
+  pub some_by_any : (ss : List Slot) → list_any p ss ≡ is_some (first_from (λ _ s. p s) 0 ss)
+  some_by_any ss = any_from 0 ss

@@ -5,7 +5,6 @@ ghost use Rattle.shadow.specs.Slots.{change_slot, check_at, check_table};
 
 use crate::slots::SlotTable;
 use memory::guest::{FRAME_WORDS, Word};
-use slot::bounds::has;
 use slot::slots::{Shadow, SlotNumber};
 
 impl SlotTable {
@@ -13,7 +12,8 @@ impl SlotTable {
     pub fn check_place(&mut self, i: SlotNumber, j: usize, word: Word)
         ensures { self.new ≡ check_at i j word self.old }
     {
-        if has(&self.slots, i) {
+        // Not by `get_mut`: once its borrow is over, a proof knows no slot.
+        if i < self.slots.len() {
             self.slots[i].check_place(j, word);
         }
     }
@@ -21,7 +21,8 @@ impl SlotTable {
     fn check_slot(&mut self, i: SlotNumber, words: &[Word; FRAME_WORDS])
         ensures { self.new ≡ change_slot i (check_slot words.now) self.old }
     {
-        if has(&self.slots, i) {
+        // Not by `get_mut`: once its borrow is over, a proof knows no slot.
+        if i < self.slots.len() {
             self.slots[i].check(words);
         }
     }

@@ -1,25 +1,18 @@
 //! Emptying and filling slots.
-ghost use Rattle.std.specs.Prelude.{◌≡◌, map};
-ghost use Rattle.slot.specs.Slot.{bare, unlink_slot};
+ghost use Rattle.std.specs.Prelude.{◌≡◌};
+ghost use Rattle.slot.specs.Slot.{bare};
 ghost use Rattle.shadow.specs.Slots.{change_slot, evict, fill};
 
 use crate::slots::SlotTable;
-use slot::bounds::has;
-use slot::slots::{Shadow, Slot, SlotNumber, Thing};
-
-fn unlink_slots(slots: &mut [Slot], slot: SlotNumber)
-    ensures { slots.new ≡ map (unlink_slot slot) slots.old }
-{
-    for each in slots.iter_mut() {
-        each.unlink(slot);
-    }
-}
+use slot::changing::change_all;
+use slot::slots::{Shadow, SlotNumber, Thing};
 
 impl SlotTable {
     fn reset(&mut self, i: SlotNumber, shadow: Shadow)
         ensures { self.new ≡ change_slot i (λ _. bare shadow) self.old }
     {
-        if has(&self.slots, i) {
+        // Not by `get_mut`: once its borrow is over, a proof knows no slot.
+        if i < self.slots.len() {
             self.slots[i].reset(shadow);
         }
     }
@@ -28,7 +21,7 @@ impl SlotTable {
     pub fn evict(&mut self, i: SlotNumber)
         ensures { self.new ≡ evict i self.old }
     {
-        unlink_slots(&mut self.slots, i);
+        change_all(&mut self.slots, |slot| slot.unlink(i));
         self.reset(i, Shadow::Nothing);
     }
 

@@ -1,20 +1,11 @@
 //! Single places and states, read and written.
-ghost use Rattle.std.specs.Prelude.{◌≡◌, map};
-ghost use Rattle.slot.specs.Slot.{drop_in_slot};
+ghost use Rattle.std.specs.Prelude.{◌≡◌};
 ghost use Rattle.shadow.specs.Slots.{drop_entry, flag_off_at, fresh, place_at, put_place, set_sync, shadow_at};
 
 use crate::slots::{SLOT_LIMIT, SlotTable};
 use memory::guest::{Frame, Word};
-use slot::bounds::has;
+use slot::changing::change_all;
 use slot::slots::{PLACES, Place, Shadow, Slot, SlotNumber, SyncState};
-
-fn drop_entries(slots: &mut [Slot], frame: Frame, index: usize)
-    ensures { slots.new ≡ map (drop_in_slot frame index) slots.old }
-{
-    for slot in slots.iter_mut() {
-        slot.drop_entry(frame, index);
-    }
-}
 
 impl SlotTable {
     /// A table with `count` slots in use, all of them empty.
@@ -35,28 +26,23 @@ impl SlotTable {
     pub fn shadow(&self, i: SlotNumber) -> Shadow
         ensures { result ≡ shadow_at i self.now }
     {
-        if has(&self.slots, i) {
-            self.slots[i].shadow
-        } else {
-            Shadow::Nothing
-        }
+        self.slots
+            .get(i)
+            .map_or(Shadow::Nothing, |slot| slot.shadow)
     }
 
     /// What stands at place j of slot i.
     pub fn place(&self, i: SlotNumber, j: usize) -> Place
         ensures { result ≡ place_at i j self.now }
     {
-        if has(&self.slots, i) {
-            self.slots[i].place(j)
-        } else {
-            Place::Empty
-        }
+        self.slots.get(i).map_or(Place::Empty, |slot| slot.place(j))
     }
 
     fn put(&mut self, i: SlotNumber, j: usize, place: Place)
         ensures { self.new ≡ put_place i j place self.old }
     {
-        if has(&self.slots, i) {
+        // Not by `get_mut`: once its borrow is over, a proof knows no slot.
+        if i < self.slots.len() {
             self.slots[i].put(j, place);
         }
     }
@@ -101,7 +87,8 @@ impl SlotTable {
     pub fn flag_off(&mut self, i: SlotNumber, j: usize)
         ensures { self.new ≡ flag_off_at i j self.old }
     {
-        if has(&self.slots, i) {
+        // Not by `get_mut`: once its borrow is over, a proof knows no slot.
+        if i < self.slots.len() {
             self.slots[i].flag_off(j);
         }
     }
@@ -110,14 +97,15 @@ impl SlotTable {
     pub fn drop_entry(&mut self, frame: Frame, index: usize)
         ensures { self.new ≡ drop_entry frame index self.old }
     {
-        drop_entries(&mut self.slots, frame, index);
+        change_all(&mut self.slots, |slot| slot.drop_entry(frame, index));
     }
 
     /// Sets the state of the table that slot i shadows.
     pub fn set_sync(&mut self, i: SlotNumber, state: SyncState)
         ensures { self.new ≡ set_sync i state self.old }
     {
-        if has(&self.slots, i) {
+        // Not by `get_mut`: once its borrow is over, a proof knows no slot.
+        if i < self.slots.len() {
             self.slots[i].set_sync(state);
         }
     }

@@ -2,7 +2,6 @@
 ghost use Rattle.std.specs.Prelude.{◌≡◌, length};
 ghost use Rattle.slot.specs.Slot.{change_place, check_from, check_place, check_slot};
 
-use crate::bounds::has;
 use crate::slots::{Place, Slot, SyncState};
 use memory::guest::{FRAME_WORDS, Word};
 
@@ -23,8 +22,9 @@ fn check_places(places: &mut [Place], words: &[Word])
     requires { length words.now ≡ length places.old }
     ensures { places.new ≡ check_from words.now 0 places.old }
 {
-    for j in 0..places.len() {
-        places[j].check(words[j]);
+    // Not by `zip`: a proof then knows no place after the loop.
+    for (j, place) in places.iter_mut().enumerate() {
+        place.check(words[j]);
     }
 }
 
@@ -33,7 +33,8 @@ impl Slot {
     pub fn check_place(&mut self, j: usize, word: Word)
         ensures { self.new ≡ change_place j (check_place word) self.old }
     {
-        if has(&self.places, j) {
+        // Not by `get_mut`: once its borrow is over, a proof knows no place.
+        if j < self.places.len() {
             self.places[j].check(word);
         }
     }

@@ -1,7 +1,8 @@
 //! Emptying and filling a slot.
-ghost use Rattle.std.specs.Prelude.{◌≡◌, map};
+ghost use Rattle.std.specs.Prelude.{◌≡◌};
 ghost use Rattle.slot.specs.Slot.{bare, shadow_of, unlink_place, unlink_slot};
 
+use crate::changing::change_all;
 use crate::slots::{PLACES, Place, Shadow, Slot, SlotNumber, SyncState, Thing};
 
 impl Place {
@@ -17,21 +18,13 @@ impl Place {
     }
 }
 
-fn unlink_places(places: &mut [Place], slot: SlotNumber)
-    ensures { places.new ≡ map (unlink_place slot) places.old }
-{
-    for place in places.iter_mut() {
-        place.unlink(slot);
-    }
-}
-
 impl Slot {
     /// Empties every link to the slot of this number.
     pub fn unlink(&mut self, slot: SlotNumber)
         ensures { self.new ≡ unlink_slot slot self.old }
     {
         match self.shadow {
-            Shadow::Directory(_) => unlink_places(&mut self.places, slot),
+            Shadow::Directory(_) => change_all(&mut self.places, |place| place.unlink(slot)),
             Shadow::Nothing | Shadow::Table(..) | Shadow::Split(_) => {}
         }
     }

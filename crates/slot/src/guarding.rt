@@ -1,7 +1,8 @@
 //! Taking the flag of stores off whatever aims at a frame.
-ghost use Rattle.std.specs.Prelude.{◌≡◌, map};
+ghost use Rattle.std.specs.Prelude.{◌≡◌};
 ghost use Rattle.slot.specs.Slot.{guard_leaf, guard_slot, in_split};
 
+use crate::changing::change_all;
 use crate::slots::{PLACES, Place, Shadow, Slot};
 use memory::guest::Frame;
 
@@ -10,23 +11,11 @@ impl Place {
     fn guard(&mut self, frame: Frame)
         ensures { self.new ≡ guard_leaf frame self.old }
     {
-        if let Place::Leaf { word, aim, .. } = *self
-            && aim == frame
+        if let Place::Leaf { aim, writable, .. } = self
+            && *aim == frame
         {
-            *self = Place::Leaf {
-                word,
-                aim,
-                writable: false,
-            };
+            *writable = false;
         }
-    }
-}
-
-fn guard_places(places: &mut [Place], frame: Frame)
-    ensures { places.new ≡ map (guard_leaf frame) places.old }
-{
-    for place in places.iter_mut() {
-        place.guard(frame);
     }
 }
 
@@ -44,7 +33,7 @@ impl Slot {
     {
         match self.shadow {
             Shadow::Nothing | Shadow::Directory(_) => {}
-            Shadow::Table(..) => guard_places(&mut self.places, frame),
+            Shadow::Table(..) => change_all(&mut self.places, |place| place.guard(frame)),
             Shadow::Split(first) => {
                 if in_split(frame, first) {
                     self.places[(frame - first) as usize].flag_off();

@@ -1,7 +1,7 @@
 //! One slot of a shadow page table: what it shadows, and its copies of the guest's entries.
 #![tactic(auto)]
 
-pub mod bounds;
+pub mod changing;
 pub mod checking;
 pub mod evicting;
 pub mod guarding;

@@ -1,8 +1,6 @@
 //! A slot and what it holds. It knows neither memory nor page format: it keeps what it is told.
 use memory::guest::{Frame, Word};
-
-/// The number of a slot.
-pub type SlotNumber = usize;
+pub use policies::policy::SlotNumber;
 
 /// The places of a slot, one for each word of a frame.
 pub const PLACES: usize = 1024;

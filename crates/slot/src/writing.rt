@@ -2,7 +2,6 @@
 ghost use Rattle.std.specs.Prelude.{◌≡◌};
 ghost use Rattle.slot.specs.Slot.{change_place, copies, drop_in_slot, flag_off, sync_slot, with_sync};
 
-use crate::bounds::has;
 use crate::slots::{Place, Shadow, Slot, SyncState};
 use memory::guest::Frame;
 
@@ -11,14 +10,10 @@ impl Place {
     pub(crate) fn flag_off(&mut self)
         ensures { self.new ≡ flag_off self.old }
     {
-        match *self {
+        match self {
             Place::Empty | Place::Link { .. } => {}
-            Place::Leaf { word, aim, .. } => *self = Place::Leaf {
-                word,
-                aim,
-                writable: false,
-            },
-            Place::Piece { .. } => *self = Place::Piece { writable: false },
+            Place::Leaf { writable, .. } => *writable = false,
+            Place::Piece { writable } => *writable = false,
         }
     }
 }
@@ -28,10 +23,7 @@ impl Shadow {
     fn copies(self, frame: Frame) -> bool
         ensures { result ≡ copies frame self }
     {
-        match self {
-            Shadow::Directory(of) | Shadow::Table(of, _) => of == frame,
-            Shadow::Nothing | Shadow::Split(_) => false,
-        }
+        matches!(self, Shadow::Directory(of) | Shadow::Table(of, _) if of == frame)
     }
 
     /// The same with a table's state set.
@@ -50,7 +42,8 @@ impl Slot {
     pub fn put(&mut self, j: usize, place: Place)
         ensures { self.new ≡ change_place j (λ _. place) self.old }
     {
-        if has(&self.places, j) {
+        // Not by `get_mut`: once its borrow is over, a proof knows no place.
+        if j < self.places.len() {
             self.places[j] = place;
         }
     }
@@ -59,7 +52,8 @@ impl Slot {
     pub fn flag_off(&mut self, j: usize)
         ensures { self.new ≡ change_place j flag_off self.old }
     {
-        if has(&self.places, j) {
+        // Not by `get_mut`: once its borrow is over, a proof knows no place.
+        if j < self.places.len() {
             self.places[j].flag_off();
         }
     }

@@ -1,8 +1,0 @@
-use Rattle.slot.proofs.Over.{over_all, over_more}
-use Rattle.shadow.proofs.guarding.guard_slots.Goals as goal
-
-pub loop-slot-preserved : goal.loop-slot-preserved
-loop-slot-preserved c = over_more _ _ _ _ _ _ c.loop-slot-test.true c.loop-slot.auto.slots c.loop-slot.invariant c.guard.ensures
-
-pub returns : goal.returns
-returns c = over_all _ _ _ _ c.loop-slot-test.false c.loop-slot.invariant
