@@ -2,10 +2,12 @@
 ghost use Rattle.std.specs.Prelude.{◌<◌};
 ghost use Rattle.unit.specs.Faults.{Waits};
 ghost use Rattle.unit.specs.Promises.{view};
-ghost use Rattle.unit.specs.Replies.{answer_reply};
+ghost use Rattle.unit.specs.Replies.{access_reply};
 
 use crate::figures::Figures;
 use crate::guest::{PAGES, entry_address, page_address, page_entry};
+use calls::plain::AccessError;
+use engine::engine::Through;
 use memory::flat::Flat;
 use memory::guest::{GuestMemory, Word};
 use memory::refusal::Refusal;
@@ -16,8 +18,8 @@ use policies::policy::EvictionPolicy;
 use settled::{Settlement, settle};
 use std::error::Error;
 use std::fmt;
-use unit::answers::Answer;
 use unit::machine::Machine;
+use unit::tokens::PendingFault;
 
 #[derive(Clone, Copy, PartialEq, Eq)]
 pub enum Workload {
@@ -117,13 +119,14 @@ pub type Guest<P> = Machine<Flat, X86, P>;
 /// The word of an access that came through.
 fn came_through<M: GuestMemory, F: PageFormat, P: EvictionPolicy>(
     machine: &mut Machine<M, F, P>,
-    answer: Answer,
+    res: Result<Through, AccessError<PendingFault>>,
 ) -> Result<Word, Trouble>
-    requires { Waits (view M.GuestMemory F.PageFormat P.EvictionPolicy machine.old) (answer_reply answer) }
+    requires { Waits (view M.GuestMemory F.PageFormat P.EvictionPolicy machine.old) (access_reply res) }
 {
-    match answer {
-        Answer::Through(through) => Ok(through.value),
-        Answer::Faulted(fault) => {
+    match res {
+        Ok(through) => Ok(through.value),
+        Err(AccessError::Refused(refusal)) => Err(refusal.into()),
+        Err(AccessError::Faulted(fault)) => {
             let address = fault.fault().address;
             settle(machine, fault, Settlement::GiveUp);
             Err(Trouble::Faulted(address))
@@ -132,8 +135,8 @@ fn came_through<M: GuestMemory, F: PageFormat, P: EvictionPolicy>(
 }
 
 fn load<P: EvictionPolicy>(machine: &mut Guest<P>, address: Address) -> Result<Word, Trouble> {
-    let answer = machine.load(address)?;
-    came_through(machine, answer)
+    let res = machine.load(address);
+    came_through(machine, res)
 }
 
 fn store<P: EvictionPolicy>(
@@ -141,8 +144,8 @@ fn store<P: EvictionPolicy>(
     address: Address,
     word: Word,
 ) -> Result<Word, Trouble> {
-    let answer = machine.store(address, word)?;
-    came_through(machine, answer)
+    let res = machine.store(address, word);
+    came_through(machine, res)
 }
 
 /// The addresses of all pages, dealt out to so many tables.

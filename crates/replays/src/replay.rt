@@ -2,7 +2,6 @@
 use crate::script::Line;
 use crate::text::Text;
 use memory::guest::{FRAME_WORDS, Frame, GuestMemory};
-use memory::refusal::Refusal;
 use mmu::exits::Exit;
 use paging::format::PageFormat;
 use policies::policy::EvictionPolicy;
@@ -23,20 +22,6 @@ pub struct Replay<M, F, P> {
     calls: Vec<Call>,
 }
 
-fn exit_reply(res: Result<Exit, Refusal>) -> Reply {
-    match res {
-        Ok(exit) => Reply::Done(exit),
-        Err(refusal) => Reply::Refused(refusal),
-    }
-}
-
-fn quiet_reply(res: Result<(), Refusal>) -> Reply {
-    match res {
-        Ok(()) => Reply::Done(Exit::None),
-        Err(refusal) => Reply::Refused(refusal),
-    }
-}
-
 impl<M: GuestMemory + Drop, F: PageFormat + Drop, P: EvictionPolicy + Drop> Replay<M, F, P> {
     pub fn new(memory: M, frames: u32, policy: P, heap: Global) -> Replay<M, F, P> {
         Replay {
@@ -55,7 +40,7 @@ impl<M: GuestMemory + Drop, F: PageFormat + Drop, P: EvictionPolicy + Drop> Repl
                 self.token = Some(token);
                 Reply::Done(Exit::None)
             }
-            Err(refusal) => Reply::Refused(refusal),
+            Err(refusal) => refusal.into(),
         }
     }
 
@@ -63,10 +48,10 @@ impl<M: GuestMemory + Drop, F: PageFormat + Drop, P: EvictionPolicy + Drop> Repl
     fn close(&mut self) -> Option<Reply> {
         let token = self.token.take()?;
         match self.machine.close(token) {
-            Ok(closed) => Some(Reply::Closed(closed.report())),
+            Ok(closed) => Some(closed.report().into()),
             Err(still) => {
                 self.token = Some(still.token);
-                Some(Reply::Refused(still.refusal))
+                Some(still.refusal.into())
             }
         }
     }
@@ -80,13 +65,11 @@ impl<M: GuestMemory + Drop, F: PageFormat + Drop, P: EvictionPolicy + Drop> Repl
                 Some(store(&mut self.machine, address, word, settlement))
             }
             Call::Fetch(address) => Some(fetch(&mut self.machine, address, settlement)),
-            Call::FlushAll => Some(exit_reply(self.machine.flush_all())),
-            Call::FlushPage(address) => Some(exit_reply(self.machine.flush_page(address))),
-            Call::Switch(root) => Some(exit_reply(self.machine.switch(root))),
-            Call::SetMode(mode) => Some(quiet_reply(self.machine.set_mode(mode))),
-            Call::Poke(frame, index, word) => {
-                Some(quiet_reply(self.machine.poke(frame, index, word)))
-            }
+            Call::FlushAll => Some(self.machine.flush_all().into()),
+            Call::FlushPage(address) => Some(self.machine.flush_page(address).into()),
+            Call::Switch(root) => Some(self.machine.switch(root).into()),
+            Call::SetMode(mode) => Some(self.machine.set_mode(mode).into()),
+            Call::Poke(frame, index, word) => { Some(self.machine.poke(frame, index, word).into()) }
             Call::Open(root, slots) => Some(self.open(root, slots)),
             Call::Close => self.close(),
             Call::Deliver(_) | Call::GiveUp(_) => None,
@@ -113,7 +96,7 @@ impl<M: GuestMemory + Drop, F: PageFormat + Drop, P: EvictionPolicy + Drop> Repl
                 }
             }
             Err(RunError::Refused(refusal)) => {
-                println!(rt; "run {}", Text::Answer(Reply::Refused(refusal)))?
+                println!(rt; "run {}", Text::Answer(refusal.into()))?
             }
             Err(RunError::NoMemory) => println!(rt; "no memory")?,
         }

@@ -4,14 +4,15 @@
 ghost use Rattle.std.specs.Prelude.{◌≡◌, Some};
 ghost use Rattle.unit.specs.Faults.{Waits, waiting};
 ghost use Rattle.unit.specs.Promises.{view};
-ghost use Rattle.unit.specs.Replies.{answer_reply};
+ghost use Rattle.unit.specs.Replies.{access_reply};
 ghost use Rattle.walk.specs.Numbers.{fault_numbers};
 
+use calls::plain::AccessError;
+use engine::engine::Through;
 use memory::guest::{GuestMemory, Word};
 use paging::access::Address;
 use paging::format::PageFormat;
 use policies::policy::EvictionPolicy;
-use unit::answers::Answer;
 use unit::machine::Machine;
 use unit::requests::Reply;
 use unit::tokens::PendingFault;
@@ -32,31 +33,26 @@ pub fn settle<M: GuestMemory, F: PageFormat, P: EvictionPolicy>(
     requires { waiting (view M.GuestMemory F.PageFormat P.EvictionPolicy machine.old) ≡ Some (fault_numbers fault.fault) }
 {
     match settlement {
-        Settlement::Deliver => match machine.deliver(fault) {
-            Ok(()) => {}
-            Err(_) => unreachable(),
-        },
-        Settlement::GiveUp => match machine.give_up(fault) {
-            Ok(()) => {}
-            Err(_) => unreachable(),
-        },
+        Settlement::Deliver => machine.deliver(fault).unwrap(),
+        Settlement::GiveUp => machine.give_up(fault).unwrap(),
     }
 }
 
-/// Settles the fault of an access that was accepted, if it has one.
+/// What an access was answered, once its fault, if it has one, is settled.
 fn finish<M: GuestMemory, F: PageFormat, P: EvictionPolicy>(
     machine: &mut Machine<M, F, P>,
-    answer: Answer,
+    res: Result<Through, AccessError<PendingFault>>,
     settlement: Settlement,
 ) -> Reply
-    requires { Waits (view M.GuestMemory F.PageFormat P.EvictionPolicy machine.old) (answer_reply answer) }
+    requires { Waits (view M.GuestMemory F.PageFormat P.EvictionPolicy machine.old) (access_reply res) }
 {
-    match answer {
-        Answer::Through(through) => Reply::Through(through),
-        Answer::Faulted(fault) => {
+    match res {
+        Ok(through) => through.into(),
+        Err(AccessError::Refused(refusal)) => refusal.into(),
+        Err(AccessError::Faulted(fault)) => {
             let said = fault.fault();
             settle(machine, fault, settlement);
-            Reply::Faulted(said)
+            said.into()
         }
     }
 }
@@ -67,10 +63,8 @@ pub fn load<M: GuestMemory, F: PageFormat, P: EvictionPolicy>(
     address: Address,
     settlement: Settlement,
 ) -> Reply {
-    match machine.load(address) {
-        Ok(answer) => finish(machine, answer, settlement),
-        Err(refusal) => Reply::Refused(refusal),
-    }
+    let res = machine.load(address);
+    finish(machine, res, settlement)
 }
 
 /// Stores, and settles a fault.
@@ -80,10 +74,8 @@ pub fn store<M: GuestMemory, F: PageFormat, P: EvictionPolicy>(
     word: Word,
     settlement: Settlement,
 ) -> Reply {
-    match machine.store(address, word) {
-        Ok(answer) => finish(machine, answer, settlement),
-        Err(refusal) => Reply::Refused(refusal),
-    }
+    let res = machine.store(address, word);
+    finish(machine, res, settlement)
 }
 
 /// Fetches, and settles a fault.
@@ -92,8 +84,6 @@ pub fn fetch<M: GuestMemory, F: PageFormat, P: EvictionPolicy>(
     address: Address,
     settlement: Settlement,
 ) -> Reply {
-    match machine.fetch(address) {
-        Ok(answer) => finish(machine, answer, settlement),
-        Err(refusal) => Reply::Refused(refusal),
-    }
+    let res = machine.fetch(address);
+    finish(machine, res, settlement)
 }

@@ -3,10 +3,11 @@
 ghost use Rattle.std.specs.Prelude.{◌≡◌};
 ghost use Rattle.unit.specs.Faults.{Waits};
 ghost use Rattle.unit.specs.Promises.{view};
-ghost use Rattle.unit.specs.Replies.{answer_reply};
+ghost use Rattle.unit.specs.Replies.{access_reply};
 
 use crate::scene::{Seen, ZERO, flat, furnish, shown};
-use engine::engine::FaultRecord;
+use calls::plain::AccessError;
+use engine::engine::{FaultRecord, Through};
 use engine::tallies::Tallies;
 use memory::flat::Flat;
 use memory::guest::GuestMemory;
@@ -20,10 +21,10 @@ use policies::policy::EvictionPolicy;
 use settled::{Settlement, settle};
 use std::alloc::Global;
 use std::test::Fail;
-use unit::answers::{Answer, Unsettled};
+use unit::answers::Unsettled;
 use unit::machine::Machine;
 use unit::requests::Reply;
-use unit::tokens::RunningToken;
+use unit::tokens::{PendingFault, RunningToken};
 
 fn furnished(heap: Global) -> Result<Machine<Flat, X86, Hand>, Fail> {
     let mut machine = Machine::<Flat, X86, Hand>::new(flat(heap, 2)?, Hand::new());
@@ -60,13 +61,13 @@ fn report(machine: &mut Machine<Flat, X86, Hand>, token: RunningToken) -> Option
 fn offer<M: GuestMemory, F: PageFormat, P: EvictionPolicy>(
     right: &mut Machine<M, F, P>,
     wrong: &mut Machine<M, F, P>,
-    answer: Answer,
+    res: Result<Through, AccessError<PendingFault>>,
 ) -> Option<(Refusal, Refusal)>
-    requires { Waits (view M.GuestMemory F.PageFormat P.EvictionPolicy right.old) (answer_reply answer) }
+    requires { Waits (view M.GuestMemory F.PageFormat P.EvictionPolicy right.old) (access_reply res) }
 {
-    match answer {
-        Answer::Through(_) => None,
-        Answer::Faulted(fault) => match wrong.deliver(fault) {
+    match res {
+        Ok(_) | Err(AccessError::Refused(_)) => None,
+        Err(AccessError::Faulted(fault)) => match wrong.deliver(fault) {
             Ok(()) => None,
             Err(once) => {
                 let Unsettled {
@@ -94,10 +95,8 @@ fn load_and_offer<M: GuestMemory, F: PageFormat, P: EvictionPolicy>(
     wrong: &mut Machine<M, F, P>,
     address: Address,
 ) -> Option<(Refusal, Refusal)> {
-    match right.load(address) {
-        Ok(answer) => offer(right, wrong, answer),
-        Err(_) => None,
-    }
+    let res = right.load(address);
+    offer(right, wrong, res)
 }
 
 #[test]
