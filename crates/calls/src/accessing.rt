@@ -1,13 +1,14 @@
 //! Accesses, refused where they are to be.
 ghost use Rattle.std.specs.Prelude.{◌≡◌, ◌%◌, if◌then◌else◌, nat_eq};
-ghost use Rattle.calls.specs.Gates.{count_gate, guarded};
+ghost use Rattle.calls.specs.Gates.{count_gate, in_run};
 ghost use Rattle.calls.specs.Replies.{access_reply};
 ghost use Rattle.calls.specs.Views.{run_in, state_in};
 ghost use Rattle.calls.specs.declared.plain.AccessError.TheVariants.{Refused};
-ghost use Rattle.engine.specs.Views.{ended, run_of, state_of};
+ghost use Rattle.engine.specs.Views.{ended};
 ghost use Rattle.paging.specs.Numbers.{kind_number};
 ghost use Rattle.runs.specs.Unit.{access_ends, asked_in, refuse};
 
+use crate::checks::ready_to_count;
 use crate::plain::{AccessError, PlainMachine};
 use engine::engine::Through;
 use memory::guest::{GuestMemory, Word};
@@ -33,19 +34,20 @@ impl<M: GuestMemory, P: EvictionPolicy> PlainMachine<M, P> {
         address: Address,
         word: Word,
     ) -> Result<Through, AccessError<Fault>>
-        ensures { ended (access_reply result) (state_in M.GuestMemory P.EvictionPolicy self.new) ≡ guarded (state_in M.GuestMemory P.EvictionPolicy self.old) (if nat_eq (address % 4) 0 then access_ends P.EvictionPolicy.rule F.PageFormat.format (state_of M.GuestMemory P.EvictionPolicy self.old.engine) (run_of P.EvictionPolicy self.old.engine) (asked_in (run_of P.EvictionPolicy self.old.engine) (kind_number kind) address) word else refuse (state_in M.GuestMemory P.EvictionPolicy self.old) 5) (count_gate (run_in P.EvictionPolicy self.old)) }
+        ensures { ended (access_reply result) (state_in M.GuestMemory P.EvictionPolicy self.new) ≡ in_run (state_in M.GuestMemory P.EvictionPolicy self.old) count_gate (λ r. if nat_eq (address % 4) 0 then access_ends P.EvictionPolicy.rule F.PageFormat.format (state_in M.GuestMemory P.EvictionPolicy self.old) r (asked_in r (kind_number kind) address) word else refuse (state_in M.GuestMemory P.EvictionPolicy self.old) 5) (run_in P.EvictionPolicy self.old) }
     {
-        self.ready_to_count()?;
+        let hart = self.hart.as_mut().ok_or(Refusal::NoRun)?;
+        ready_to_count(hart)?;
         if address % 4 != 0 {
             return Err(Refusal::Unaligned.into());
         }
         let access = Access {
             address,
             kind,
-            privilege: self.engine.hart.mode,
+            privilege: hart.mode,
         };
         self.engine
-            .access::<F>(access, word)
+            .access::<F>(hart, access, word)
             .map_err(AccessError::Faulted)
     }
 }

@@ -1,17 +1,15 @@
 //! What is refused before a call is looked at.
-ghost use Rattle.std.specs.Prelude.{◌≡◌, ◌<◌, true, false, is_ok};
-ghost use Rattle.std.specs.Result.{MatchResult};
-ghost use Rattle.calls.specs.Gates.{count_gate, ready_gate, refused_with};
-ghost use Rattle.calls.specs.Views.{run_in};
+ghost use Rattle.std.specs.Prelude.{◌≡◌, ◌<◌, true, is_ok};
+ghost use Rattle.calls.specs.Gates.{count_gate, ready_gate, refused_with, settle_gate};
+ghost use Rattle.engine.specs.Views.{hart_of, pending_fault};
 ghost use Rattle.memory.specs.Memory.{has_words};
-ghost use Rattle.memory.specs.declared.refusal.Refusal.TheVariants.{NoRun};
+ghost use Rattle.walk.specs.Numbers.{fault_numbers};
 
-use crate::plain::PlainMachine;
 use engine::engine::Hart;
 use engine::tallies::CALL_LIMIT;
 use memory::guest::{Frame, GuestMemory};
 use memory::refusal::Refusal;
-use policies::policy::EvictionPolicy;
+use walk::fault::Fault;
 
 /// Has the frame words?
 pub fn has_words<M: GuestMemory>(memory: &M, frame: Frame) -> bool
@@ -20,39 +18,34 @@ pub fn has_words<M: GuestMemory>(memory: &M, frame: Frame) -> bool
     memory.read(frame, 0).is_ok()
 }
 
-impl<M: GuestMemory, P: EvictionPolicy> PlainMachine<M, P> {
-    /// The processor, if a run is open.
-    pub fn hart(&self) -> Result<&Hart, Refusal>
-        ensures { MatchResult result (λ h. (self.now.running ≡ true) × (h.now ≡ self.now.engine.hart)) (λ e. (self.now.running ≡ false) × (e ≡ NoRun)) }
-    {
-        if !self.running {
-            return Err(Refusal::NoRun);
-        }
-        Ok(&self.engine.hart)
+/// Is no fault pending?
+pub fn ready(hart: &Hart) -> Result<(), Refusal>
+    ensures { refused_with result ≡ ready_gate (hart_of hart.now) }
+{
+    if hart.pending.is_some() {
+        return Err(Refusal::FaultPending);
     }
+    Ok(())
+}
 
-    // That a run is open follows from the number, but the calls' proofs need it said.
-    /// Is a run open, with no fault pending?
-    pub fn ready(&self) -> Result<(), Refusal>
-        ensures refusal { refused_with result ≡ ready_gate (run_in P.EvictionPolicy self.now) }
-        ensures running { is_ok result ≡ true → self.now.running ≡ true }
-    {
-        if self.hart()?.pending.is_some() {
-            return Err(Refusal::FaultPending);
-        }
-        Ok(())
+/// And may one more call be counted?
+pub fn ready_to_count(hart: &Hart) -> Result<(), Refusal>
+    ensures refusal { refused_with result ≡ count_gate (hart_of hart.now) }
+    ensures room { is_ok result ≡ true → hart.now.tally.figures.calls < 16777216 }
+{
+    ready(hart)?;
+    if hart.tally.figures().calls >= CALL_LIMIT {
+        return Err(Refusal::CallLimit);
     }
+    Ok(())
+}
 
-    /// And may one more call be counted?
-    pub fn ready_to_count(&self) -> Result<(), Refusal>
-        ensures refusal { refused_with result ≡ count_gate (run_in P.EvictionPolicy self.now) }
-        ensures running { is_ok result ≡ true → self.now.running ≡ true }
-        ensures room { is_ok result ≡ true → self.now.engine.hart.tally.figures.calls < 16777216 }
-    {
-        self.ready()?;
-        if self.engine.hart.tally.figures().calls >= CALL_LIMIT {
-            return Err(Refusal::CallLimit);
-        }
-        Ok(())
+/// Is this the fault that is pending?
+pub fn may_settle(pending: Option<Fault>, fault: Fault) -> Result<(), Refusal>
+    ensures { refused_with result ≡ settle_gate (fault_numbers fault) (pending_fault pending) }
+{
+    if !pending.is_some_and(|pending| pending == fault) {
+        return Err(Refusal::OtherFault);
     }
+    Ok(())
 }

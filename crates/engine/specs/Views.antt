@@ -1,5 +1,5 @@
 -- What an engine is, as a run of the unit.
-use Rattle.std.specs.Prelude.{Some, None, Ok, Err, Option, Result}
+use Rattle.std.specs.Prelude.{ℕ, Some, None, Ok, Err, Option, Result}
 use Rattle.memory.specs.declared.guest.GuestMemory
 use Rattle.policies.specs.declared.policy.EvictionPolicy
 use Rattle.mmu.specs.Numbers.{exit_number}
@@ -35,13 +35,21 @@ hart_of h = record {
   tallies = tallied h.tally.figures;
 }
 
--- the run of an engine, given what its policy means
-abbrev pub run_of : {M P : Type 0} → EvictionPolicy.Ghosts P → Engine M P → Running
-run_of policy e = record { table = e.mmu.table; order = policy.order e.mmu.policy; hart = hart_of e.hart }
+-- the processor in mode p
+abbrev pub in_mode : unit.Hart → ℕ → unit.Hart
+in_mode h p = record { root = h.root; mode = p; pending = h.pending; last = h.last; tallies = h.tallies }
+
+-- nothing is pending any more, and this is what the guest was last told
+abbrev pub settled : unit.Hart → Option unit.RecordedFault → unit.Hart
+settled h l = record { root = h.root; mode = h.mode; pending = None; last = l; tallies = h.tallies }
+
+-- the run of an engine and a processor, given what the policy means
+abbrev pub run_of : {M P : Type 0} → EvictionPolicy.Ghosts P → Engine M P → Hart → Running
+run_of policy e h = record { table = e.mmu.table; order = policy.order e.mmu.policy; hart = hart_of h }
 
 -- the state of a machine whose run is open, given what its memory and its policy mean
-abbrev pub state_of : {M P : Type 0} → GuestMemory.Ghosts M → EvictionPolicy.Ghosts P → Engine M P → State
-state_of memory policy e = record { memory = memory.frames e.memory; run = Some (run_of policy e) }
+abbrev pub state_of : {M P : Type 0} → GuestMemory.Ghosts M → EvictionPolicy.Ghosts P → Engine M P → Hart → State
+state_of memory policy e h = record { memory = memory.frames e.memory; run = Some (run_of policy e h) }
 
 abbrev pub through_of : Through → terms.Through
 through_of x = record { target = x.frame; marks = marks_writes x.marks; value = x.value; exit = exit_number x.exit }

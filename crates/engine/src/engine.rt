@@ -26,12 +26,11 @@ pub struct Hart {
     pub tally: Tally,
 }
 
-/// Guest memory, the shadow MMU over it, and the processor.
+/// Guest memory, and the shadow MMU over it. The processor stands beside it, in the calls of a run.
 #[derive(Drop)]
 pub struct Engine<M, P> {
     pub memory: M,
     pub mmu: Mmu<P>,
-    pub hart: Hart,
 }
 
 /// An access that came through.

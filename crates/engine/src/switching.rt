@@ -16,31 +16,31 @@ use slot::slots::Thing;
 impl<M: GuestMemory, P: EvictionPolicy> Engine<M, P> {
     /// Checks every unsynchronised table, and puts another root in force.
     #[tactic(auto, unfolding(runs::specs::Unit::switch_ends))]
-    pub fn switch(&mut self, root: Frame)
-        requires { self.old.hart.tally.figures.calls < 16777216 }
-        ensures { ended (done switch) (state_of M.GuestMemory P.EvictionPolicy self.new) ≡ switch_ends P.EvictionPolicy.rule (state_of M.GuestMemory P.EvictionPolicy self.old) (run_of P.EvictionPolicy self.old) root }
+    pub fn switch(&mut self, hart: &mut Hart, root: Frame)
+        requires { hart.old.tally.figures.calls < 16777216 }
+        ensures { ended (done switch) (state_of M.GuestMemory P.EvictionPolicy self.new hart.new) ≡ switch_ends P.EvictionPolicy.rule (state_of M.GuestMemory P.EvictionPolicy self.old hart.old) (run_of P.EvictionPolicy self.old hart.old) root }
     {
         self.mmu.resync_all(&self.memory);
         let taken = self.mmu.obtain(&self.memory, None, Thing::Directory(root));
-        self.hart.root = root;
-        self.hart.tally.count(Exit::Switch, taken.evicted);
+        hart.root = root;
+        hart.tally.count(Exit::Switch, taken.evicted);
     }
 
-    /// Begins a run: slots, order and figures afresh, in supervisor mode, with the root's directory taken.
+    /// Begins a run: slots, order and figures afresh, with the root's directory taken. The processor starts in supervisor mode.
     #[tactic(auto, unfolding(runs::specs::Unit::opened_at))]
-    pub fn open(&mut self, root: Frame, count: usize)
+    pub fn open(&mut self, root: Frame, count: usize) -> Hart
         requires { count ≤ 8 }
-        ensures { state_of M.GuestMemory P.EvictionPolicy self.new ≡ opened_at P.EvictionPolicy.rule (M.GuestMemory.frames self.old.memory) root count }
+        ensures { state_of M.GuestMemory P.EvictionPolicy self.new result ≡ opened_at P.EvictionPolicy.rule (M.GuestMemory.frames self.old.memory) root count }
     {
         self.mmu.table = SlotTable::new(count);
         self.mmu.policy.start(count);
         let _ = self.mmu.take(&self.memory, None, Thing::Directory(root));
-        self.hart = Hart {
+        Hart {
             root,
             mode: Privilege::Supervisor,
             pending: None,
             last: None,
             tally: Tally::new(),
-        };
+        }
     }
 }

@@ -1,5 +1,5 @@
 -- A loop that makes calls one after the other, up to the one that closes the run.
-use Rattle.std.proofs.Common.{◌≡◌, ℕ, ◌+◌, ◌<◌, ◌≤◌, Bool, true, false, cond, List, [], ◌∷◌, ◌++◌, length, get_or, drop, is_some, None, sym, refl, ap, ◌∙◌, subst}
+use Rattle.std.proofs.Common.{◌≡◌, ℕ, ◌+◌, ◌<◌, ◌≤◌, Bool, true, false, cond, List, [], ◌∷◌, ◌++◌, length, get_or, drop, is_some, Some, None, Option, sym, refl, ap, ◌∙◌, subst}
 use Rattle.std.proofs.lemmas.List.{append-nil, drop_all, drop_more}
 use Rattle.memory.specs.declared.guest.GuestMemory
 use Rattle.paging.specs.Formats.{Format}
@@ -9,18 +9,23 @@ use Rattle.policies.specs.declared.policy.EvictionPolicy
 use Rattle.runs.specs.Laws.{LawfulRun}
 use Rattle.runs.specs.Runs.{Bounded, RunsToCloseLawful, left_by, replies_to_close}
 use Rattle.runs.specs.Terms as terms
-use Rattle.runs.specs.Unit.{Ended, Running, State, opened_at, step}
+use Rattle.runs.specs.Unit.{Ended, State, opened_at, step}
 use Rattle.engine.specs.Views.{ended}
-use Rattle.calls.specs.Views.{run_if}
+use Rattle.engine.specs.declared.engine.Hart.{Hart}
+use Rattle.calls.specs.Views.{run_with}
 use Rattle.unit.specs.Promises.{Begins, memory_of, opening, view}
 use Rattle.unit.specs.Whole.{Completed, call_of, calls_of, replies_of, reply_of}
 use Rattle.unit.specs.declared.machine.Machine.{Machine}
 use Rattle.unit.specs.declared.requests.Call.{Call}
 use Rattle.unit.specs.declared.requests.Reply.{Reply}
 
-pub open_if : (b : Bool) (r : Running) → is_some (run_if b r) ≡ b
-open_if true r = refl
-open_if false r = refl
+-- a run is open while there is a processor
+pub open_if : {M F P : Type 0} (memory : GuestMemory.Ghosts M) (format : PageFormat.Ghosts F) (policy : EvictionPolicy.Ghosts P) (s : Machine M F P) → is_some (view memory format policy s).run ≡ is_some s.plain.hart
+open_if memory format policy s = go s.plain.hart
+  where
+    go : (h : Option Hart) → is_some (run_with policy s.plain.engine h) ≡ is_some h
+    go None = refl
+    go (Some h) = refl
 
 -- one answer more, before what is still to come
 one_more : (rs : List Reply) (x : Reply) (ys : List terms.Reply) → replies_of (rs ++ (x ∷ [])) ++ ys ≡ replies_of rs ++ (reply_of x ∷ ys)

@@ -67,6 +67,6 @@ impl<M: GuestMemory, F: PageFormat, P: EvictionPolicy> Machine<M, F, P> {
     pub fn fault_record(&self) -> Result<Option<FaultRecord>, Refusal>
         ensures { record_told result ≡ record_asked (run_in P.EvictionPolicy self.now.plain) }
     {
-        Ok(self.plain.hart()?.last)
+        Ok(self.plain.hart.ok_or(Refusal::NoRun)?.last)
     }
 }

@@ -10,12 +10,11 @@ use crate::answers::StillRunning;
 use crate::machine::Machine;
 use crate::tokens::{ClosedToken, RunningToken};
 use calls::plain::PlainMachine;
-use engine::engine::{Engine, Hart};
-use engine::tallies::{Tallies, Tally};
+use engine::engine::Engine;
+use engine::tallies::Tallies;
 use memory::guest::{Frame, GuestMemory, Word};
 use memory::refusal::Refusal;
 use mmu::unit::Mmu;
-use paging::access::Privilege;
 use paging::format::PageFormat;
 use policies::policy::EvictionPolicy;
 use runs::laws::calls_lawful;
@@ -45,21 +44,14 @@ impl<M: GuestMemory, F: PageFormat, P: EvictionPolicy> Machine<M, F, P> {
     pub fn new(memory: M, policy: P) -> Machine<M, F, P>
         ensures { view M.GuestMemory F.PageFormat P.EvictionPolicy result ≡ record { memory = M.GuestMemory.frames memory; run = None } }
     {
-        let hart = Hart {
-            root: 0,
-            mode: Privilege::Supervisor,
-            pending: None,
-            last: None,
-            tally: Tally::new(),
-        };
         let mmu = Mmu {
             table: SlotTable::new(0),
             policy,
         };
         Machine {
             plain: PlainMachine {
-                engine: Engine { memory, mmu, hart },
-                running: false,
+                engine: Engine { memory, mmu },
+                hart: None,
             },
             format: PhantomData,
         }

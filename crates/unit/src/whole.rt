@@ -43,7 +43,7 @@ impl<M: GuestMemory, F: PageFormat, P: EvictionPolicy> Machine<M, F, P> {
         for call in calls {
             let reply = self.apply(*call);
             answered.push_reserved(reply);
-            if !self.plain.running {
+            if self.plain.hart.is_none() {
                 return;
             }
         }
@@ -53,7 +53,7 @@ impl<M: GuestMemory, F: PageFormat, P: EvictionPolicy> Machine<M, F, P> {
     fn break_off(&mut self)
         ensures { view M.GuestMemory F.PageFormat P.EvictionPolicy self.new ≡ record { memory = M.GuestMemory.frames self.old.plain.engine.memory; run = None } }
     {
-        self.plain.running = false;
+        self.plain.hart = None;
     }
 
     /// Opens a run, makes the calls up to the one that closes it, and answers what each was answered. Where none closes it,
