@@ -100,17 +100,14 @@ module _ (F : Format) (laws : LawsOfMarking F) (o : Opening) (h : History) (r : 
       (good.past I a.address w s g x f b good.rooted p i q))
 
   undisturbed : (f : ℕ) → Hit F a r.table I f → Unstored (words_read F a R m) (page_of a.address) h → guest_walk F a R m ≡ to f []
-  undisturbed f hit u = by_state f _ hit (λ e. e) lagging
-    where
-      lagging : Lagging f (guest_walk F a R m ≡ to f [])
-      lagging w s x g b p q i z =
-          let l = good.fit.sound.framed.links I D w s p in
-          let k = named_table (F.reads directory_level w) g Unsynchronised (subst (λ x. shadows x (named F w) ≡ true) i l.names) in
-          let read = reads_small F laws a R m root_has (link_up w s p) l.leads k.0 k.1 (subst (Backed m) i (good.fit.sound.framed.backed s)) in
-          let free = subst (λ ws. Unstored ws (page_of a.address) h) read u in
-          leaf_walk w s x f g b Unsynchronised p q i z m (has_at o h) (link_up w s p)
-          (since F o x g J (page_of a.address) h good.raised (table_index_small a.address)
-          (sometime_has o {P = Then F R a.address w g x} (λ n same v. v.1) (good.past I a.address w s g x f b good.rooted p i q)) free.1.0)
+  undisturbed f hit u = by_state f _ hit (λ e. e) (λ w s x g b p q i z.
+      let l = good.fit.sound.framed.links I D w s p in
+      let k = named_table (F.reads directory_level w) g Unsynchronised (subst (λ x. shadows x (named F w) ≡ true) i l.names) in
+      let read = reads_small F laws a R m root_has (link_up w s p) l.leads k.0 k.1 (subst (Backed m) i (good.fit.sound.framed.backed s)) in
+      let free = subst (λ ws. Unstored ws (page_of a.address) h) read u in
+      leaf_walk w s x f g b Unsynchronised p q i z m (has_at o h) (link_up w s p)
+      (since F o x g J (page_of a.address) h good.raised (table_index_small a.address)
+      (sometime_has o {P = Then F R a.address w g x} (λ n same v. v.1) (good.past I a.address w s g x f b good.rooted p i q)) free.1.0))
 
   target_has : (f : ℕ) → Hit F a r.table I f → has_words (m f) ≡ true
   target_has _ (by_piece {w} {s} {g} {b} p y q z) =

@@ -55,6 +55,10 @@ all_same zero j a = refl
 all_same (suc n) zero a = refl
 all_same (suc n) (suc j) a = all_same n j a
 
+-- every slot changed alike, where that leaves an absent one
+at_all : (g : Slot → Slot) (t : SlotTable) → g no_slot ≡ no_slot → (k : ℕ) → get_or (map g t.slots) k no_slot ≡ g (get_or t.slots k no_slot)
+at_all g t same k = subst (λ (s : Slot). get_or (map g t.slots) k s ≡ g (get_or t.slots k no_slot)) same (ListN.get_or-map g t.slots k no_slot)
+
 -- ENDS
 
 pub past_end : (t : SlotTable) (i j : ℕ) → Roomy t → 1024 ≤ j → place_at i j t ≡ Empty
@@ -90,11 +94,8 @@ module _ (f : ℕ) (s : Slot) where
 pub view_guard : (f : ℕ) (t : SlotTable) → Roomy t → view (guard f t) ≡ v_guard f (view t)
 unfolding v_guard
 view_guard f t r = same_view (view (guard f t)) (v_guard f (view t))
-    (λ k. ap (λ (s : Slot). s.shadow) (at k) ∙ guard_shadow f (get_or t.slots k no_slot) (shadow_at k t))
-    (λ k l. ap (λ (s : Slot). get_or s.places l Empty) (at k) ∙ guard_place f (get_or t.slots k no_slot) l (past_end t k l r) (shadow_at k t))
-  where
-    at : (k : ℕ) → get_or (map (guard_slot f) t.slots) k no_slot ≡ guard_slot f (get_or t.slots k no_slot)
-    at k = ListN.get_or-map (guard_slot f) t.slots k no_slot
+    (λ k. ap (λ (s : Slot). s.shadow) (at_all (guard_slot f) t refl k) ∙ guard_shadow f (get_or t.slots k no_slot) (shadow_at k t))
+    (λ k l. ap (λ (s : Slot). get_or s.places l Empty) (at_all (guard_slot f) t refl k) ∙ guard_place f (get_or t.slots k no_slot) l (past_end t k l r) (shadow_at k t))
 
 -- EVICTING
 
@@ -110,12 +111,9 @@ pub view_evict : (i : ℕ) (t : SlotTable) → view (evict i t) ≡ v_evict i (v
 unfolding v_evict
 view_evict i t = same_view (view (evict i t)) (v_evict i (view t))
     (λ k. set_cases (bare Nothing) no_slot (map (unlink_slot i) t.slots) i k (λ b s. s.shadow ≡ cond b Nothing (shadow_at k t)) (λ e h. refl) (λ e h. refl)
-    (ap (λ (s : Slot). s.shadow) (at k) ∙ unlink_shadow i (get_or t.slots k no_slot) (shadow_at k t)))
+    (ap (λ (s : Slot). s.shadow) (at_all (unlink_slot i) t refl k) ∙ unlink_shadow i (get_or t.slots k no_slot) (shadow_at k t)))
     (λ k l. set_cases (bare Nothing) no_slot (map (unlink_slot i) t.slots) i k (λ b s. get_or s.places l Empty ≡ cond b Empty (unlink_at i (shadow_at k t) (place_at k l t))) (λ e h. all_same 1024 l Empty) (λ e h. refl)
-    (ap (λ (s : Slot). get_or s.places l Empty) (at k) ∙ unlink_in i (get_or t.slots k no_slot) l (shadow_at k t)))
-  where
-    at : (k : ℕ) → get_or (map (unlink_slot i) t.slots) k no_slot ≡ unlink_slot i (get_or t.slots k no_slot)
-    at k = ListN.get_or-map (unlink_slot i) t.slots k no_slot
+    (ap (λ (s : Slot). get_or s.places l Empty) (at_all (unlink_slot i) t refl k) ∙ unlink_in i (get_or t.slots k no_slot) l (shadow_at k t)))
 
 -- WRITES
 
@@ -136,12 +134,9 @@ view_flag_off i j t = same_view (view (flag_off_at i j t)) (v_flag_off i j (view
 pub view_drop : (f j : ℕ) (t : SlotTable) → view (drop_entry f j t) ≡ v_drop f j (view t)
 unfolding v_drop
 view_drop f j t = same_view (view (drop_entry f j t)) (v_drop f j (view t))
-    (λ k. ap (λ (s : Slot). s.shadow) (at k) ∙ drop_shadow (get_or t.slots k no_slot) (copies f (shadow_at k t)))
-    (λ k l. ap (λ (s : Slot). get_or s.places l Empty) (at k) ∙ drop_place (get_or t.slots k no_slot) l (copies f (shadow_at k t)))
+    (λ k. ap (λ (s : Slot). s.shadow) (at_all (drop_in_slot f j) t refl k) ∙ drop_shadow (get_or t.slots k no_slot) (copies f (shadow_at k t)))
+    (λ k l. ap (λ (s : Slot). get_or s.places l Empty) (at_all (drop_in_slot f j) t refl k) ∙ drop_place (get_or t.slots k no_slot) l (copies f (shadow_at k t)))
   where
-    at : (k : ℕ) → get_or (map (drop_in_slot f j) t.slots) k no_slot ≡ drop_in_slot f j (get_or t.slots k no_slot)
-    at k = ListN.get_or-map (drop_in_slot f j) t.slots k no_slot
-
     drop_shadow : (s : Slot) (b : Bool) → (cond b (change_place j (λ p. Empty) s) s).shadow ≡ s.shadow
     drop_shadow s b = grind (arith, nat_tests)
 
@@ -248,11 +243,7 @@ view_put i j p t r small low = same_view (view (put_place i j p t)) (v_put i j p
 roomy_all : (g : Slot → Slot) (t : SlotTable) → g no_slot ≡ no_slot → ((s : Slot) → length (g s).places ≡ length s.places) → Roomy t → Roomy (change_all g t)
 roomy_all g t same keeps r = record {
   slots = length-map t.slots g ∙ r.slots;
-  places = λ k h.
-      ap (λ (s : Slot). length (get_or (map g t.slots) k s).places) (sym same)
-      ∙ ap (λ (s : Slot). length s.places) (ListN.get_or-map g t.slots k no_slot)
-      ∙ keeps (get_or t.slots k no_slot)
-      ∙ r.places k h;
+  places = λ k h. ap (λ (s : Slot). length s.places) (at_all g t same k) ∙ keeps (get_or t.slots k no_slot) ∙ r.places k h;
 }
 
 roomy_slot : (i : ℕ) (g : Slot → Slot) (t : SlotTable) → ((s : Slot) → length s.places ≡ 1024 → length (g s).places ≡ 1024) → Roomy t → Roomy (change_slot i g t)

@@ -8,7 +8,7 @@ use Rattle.policies.specs.Orders.{numbered, times}
 use Rattle.shadow.specs.Slots.{shadow_at}
 use Rattle.slot.specs.Slot.{lags, shadows}
 use Rattle.slot.specs.declared.slots.Shadow.{Shadow}
-use Rattle.slot.specs.declared.slots.Shadow.TheVariants.{Nothing, Directory, Table}
+use Rattle.slot.specs.declared.slots.Shadow.TheVariants.{Nothing, Table}
 use Rattle.shadow.specs.declared.slots.SlotTable.{SlotTable}
 use Rattle.slot.specs.declared.slots.SyncState.TheVariants.{Protected, Unsynchronised}
 use Rattle.slot.specs.declared.slots.Thing.{Thing}
@@ -20,7 +20,7 @@ use Rattle.runs.proofs.Places.{count_resync, resync_checked, resync_kept, roomy_
 use Rattle.runs.proofs.Shadows.{alike_shadows, directory_kept}
 use Rattle.runs.proofs.Sound.{Sound}
 use Rattle.runs.proofs.Sounds.{checked_alike, sound_check}
-use Rattle.runs.proofs.Views.{View, v_check, v_guard, view}
+use Rattle.runs.proofs.Views.{SameDirectories, View, v_check, v_guard, view}
 
 -- slots n that came from slots t by checks
 pub record Turned (t n : SlotTable) : Type 0 where
@@ -41,8 +41,7 @@ turned_trans p q = record {
   vacant = λ k e. q.vacant k (p.vacant k e);
 }
 
-pub turned_directory : {t n : SlotTable} → Turned t n → (i f : ℕ)
-    → (shadow_at i n ≡ Directory f → shadow_at i t ≡ Directory f) × (shadow_at i t ≡ Directory f → shadow_at i n ≡ Directory f)
+pub turned_directory : {t n : SlotTable} → Turned t n → SameDirectories t n
 turned_directory u i f = (directory_kept f (u.things i (thing.Directory f)), directory_kept f (sym (u.things i (thing.Directory f))))
 
 -- one checked slot, as a view

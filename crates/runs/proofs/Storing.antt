@@ -22,7 +22,7 @@ use Rattle.runs.proofs.Places.{find_none, find_some, roomy_drop, roomy_flag_off,
 use Rattle.runs.proofs.Shadows.{Alike, alike_directory, alike_split, alike_sym, alike_table, protected_table, sync_alike, table_here, unguarded}
 use Rattle.runs.proofs.Sound.{Pages, Sound, Up, guards, same}
 use Rattle.runs.proofs.Sounds.{flag_off_put, leaf_now, link_now, sound_directory_store, sound_leaf, sound_piece, sound_store, sound_unsync, sync_put, unguarded_by_sync}
-use Rattle.runs.proofs.Views.{View, v_drop, v_flag_off, v_put, v_sync, view}
+use Rattle.runs.proofs.Views.{SameDirectories, View, v_drop, v_flag_off, v_put, v_sync, view}
 
 -- What is written at place j of slot s: a leaf with the present word of its table, or a piece, that aims at frame f.
 pub data New (F : Format) (m : Memory) (v : View) (s j f : ℕ) : Place → Type 0 where
@@ -110,7 +110,7 @@ seen_olds F m root u v p i d w s f j x c t = inl (p i d w s f j x c t)
 -- What an access that walked leaves: slots n over memory k, and the exit. The slots before the leaf were t.
 pub record Kept (F : Format) (m : Memory) (root : ℕ) (t : SlotTable) (q : List ℕ) (s j : ℕ) (p : Place) (k : Memory) (n : SlotTable) (x : ℕ) : Type 0 where
   pub fit : Fit F k n q
-  pub shadow : (i f : ℕ) → (shadow_at i n ≡ Directory f → shadow_at i t ≡ Directory f) × (shadow_at i t ≡ Directory f → shadow_at i n ≡ Directory f)
+  pub shadow : SameDirectories t n
   pub seen : SeenOr F m root (view t) (view n)
   pub exits : x ≡ no_exit → ⊥
 
@@ -127,21 +127,21 @@ module _ (F : Format) (m : Memory) (root : ℕ) (t : SlotTable) (q : List ℕ) (
   pub put_shadow : (i : ℕ) → shadow_at i (put_place s j p t) ≡ shadow_at i t
   put_shadow i = ap (λ v. v.sh i) put ∙ put_sh (view t) s j p i
 
-  pub stands_put : Stands t s j p (put_place s j p t)
-  stands_put = record {
-    here = ap (λ v. v.pl s j) put ∙ put_here (view t) s j p;
-    others = λ k l z. ap (λ v. v.pl k l) put ∙ put_other (view t) s j p k l z;
-    splits = λ k g z. put_shadow k ∙ z;
+  stands_by : (n : SlotTable) (u : View) → view n ≡ v_put s j p u → ((k l : ℕ) → u.pl k l ≡ place_at k l t) → ((k g : ℕ) → shadow_at k t ≡ Split g → u.sh k ≡ Split g) → Stands t s j p n
+  stands_by n u is places splits = record {
+    here = ap (λ v. v.pl s j) is ∙ put_here u s j p;
+    others = λ k l z. ap (λ v. v.pl k l) is ∙ put_other u s j p k l z ∙ places k l;
+    splits = λ k g z. ap (λ v. v.sh k) is ∙ put_sh u s j p k ∙ splits k g z;
   }
 
-  put_dirs : (i g : ℕ) → (shadow_at i (put_place s j p t) ≡ Directory g → shadow_at i t ≡ Directory g) × (shadow_at i t ≡ Directory g → shadow_at i (put_place s j p t) ≡ Directory g)
-  put_dirs i g = (λ z. sym (put_shadow i) ∙ z, λ z. put_shadow i ∙ z)
+  pub stands_put : Stands t s j p (put_place s j p t)
+  stands_put = stands_by (put_place s j p t) (view t) put (λ k l. refl) (λ k g z. z)
 
   -- no store, or one to a frame that nothing guards
   pub kept_plain : (k : Memory) → Sound F k (v_put s j p (view t)) → Kept F m root t q s j p k (put_place s j p t) hidden
   kept_plain k snd = record {
     fit = refit ok k (put_place s j p t) (roomy_put s j p t ok.roomy) refl (subst (Sound F k) (sym put) snd);
-    shadow = put_dirs;
+    shadow = λ i g. (λ z. sym (put_shadow i) ∙ z, λ z. put_shadow i ∙ z);
     seen = subst (SeenOr F m root (view t)) (sym put) (put_seen F m root (view t) ok.sound s j f p new);
     exits = λ z. omega arith;
   }
@@ -225,11 +225,7 @@ module _ (F : Format) (m : Memory) (root : ℕ) (t : SlotTable) (q : List ℕ) (
         loose_places n l = refl
 
         stands_table : Stands t s j p (set_sync k Unsynchronised (put_place s j p t))
-        stands_table = record {
-          here = ap (λ v. v.pl s j) loosened ∙ put_here loose s j p;
-          others = λ n l z. ap (λ v. v.pl n l) loosened ∙ put_other loose s j p n l z ∙ loose_places n l;
-          splits = λ n g z. sh n ∙ alike_split (loose_alike n) g z;
-        }
+        stands_table = stands_by (set_sync k Unsynchronised (put_place s j p t)) loose loosened loose_places (λ n g z. alike_split (loose_alike n) g z)
 
       -- the one protected table of the frame is found
       found_table : is_protected f (put_place s j p t) ≡ true → (x : Option ℕ) → find_slot (thing.Table f) (put_place s j p t) ≡ x

@@ -77,3 +77,7 @@ v_flag_off i j v = record { sh = v.sh; pl = λ k l. cond (eqb k i && eqb l j) (f
 -- what was copied of word j of frame f goes
 unfoldable pub v_drop : ℕ → ℕ → View → View
 v_drop f j v = record { sh = v.sh; pl = λ k l. cond (copies f (v.sh k) && eqb l j) Empty (v.pl k l) }
+
+-- slots n shadow the directories that slots t did
+abbrev pub SameDirectories : SlotTable → SlotTable → Type 0
+SameDirectories t n = (i f : ℕ) → (shadow_at i n ≡ Directory f → shadow_at i t ≡ Directory f) × (shadow_at i t ≡ Directory f → shadow_at i n ≡ Directory f)
