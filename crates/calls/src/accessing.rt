@@ -3,7 +3,7 @@ ghost use Rattle.std.specs.Prelude.{◌≡◌, ◌%◌, if◌then◌else◌, nat
 ghost use Rattle.calls.specs.Gates.{count_gate, in_run};
 ghost use Rattle.calls.specs.Replies.{access_reply};
 ghost use Rattle.calls.specs.Views.{run_in, state_in};
-ghost use Rattle.calls.specs.declared.plain.AccessError.TheVariants.{Refused};
+ghost use Rattle.calls.specs.declared.plain.AccessError.TheVariants.{Faulted, Refused};
 ghost use Rattle.engine.specs.Views.{ended};
 ghost use Rattle.paging.specs.Numbers.{kind_number};
 ghost use Rattle.runs.specs.Unit.{access_ends, asked_in, refuse};
@@ -23,6 +23,14 @@ impl<X> From<Refusal> for AccessError<X> {
 
     fn from(refusal: Refusal) -> AccessError<X> {
         AccessError::Refused(refusal)
+    }
+}
+
+impl From<Fault> for AccessError<Fault> {
+    ghost from_gives = { λ f r. r ≡ Faulted f };
+
+    fn from(fault: Fault) -> AccessError<Fault> {
+        AccessError::Faulted(fault)
     }
 }
 
@@ -46,8 +54,6 @@ impl<M: GuestMemory, P: EvictionPolicy> PlainMachine<M, P> {
             kind,
             privilege: hart.mode,
         };
-        self.engine
-            .access::<F>(hart, access, word)
-            .map_err(AccessError::Faulted)
+        Ok(self.engine.access::<F>(hart, access, word)?)
     }
 }
