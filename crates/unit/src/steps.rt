@@ -33,7 +33,7 @@ impl<M: GuestMemory, F: PageFormat, P: EvictionPolicy> Machine<M, F, P> {
         self.plain.access::<F>(kind, address, word)
     }
 
-    // Delivering and giving up are two calls with two contracts; what they share is the call that settles, in `calls`.
+    // Delivering and giving up stay two: one function for both would have to be told which of two contracts it meets.
     pub(crate) fn step_deliver(&mut self, fault: Fault) -> Result<(), Refusal>
         ensures promise { Promised M.GuestMemory F.PageFormat P.EvictionPolicy (deliver (fault_numbers fault)) self.old (quiet_reply result) self.new }
         ensures settles { waiting (view M.GuestMemory F.PageFormat P.EvictionPolicy self.old) ≡ Some (fault_numbers fault) → is_ok result ≡ true }
