@@ -57,6 +57,7 @@ impl<M: GuestMemory + Drop, F: PageFormat + Drop, P: EvictionPolicy + Drop> Repl
     }
 
     /// Makes a call by tokens, if that can be done: faults are settled as they come, so none can be settled later.
+    // A match: the calls are data that users write, and each arm is another public call.
     fn make(&mut self, call: Call) -> Option<Reply> {
         let settlement = self.settlement;
         match call {

@@ -32,6 +32,7 @@ pub fn settle<M: GuestMemory, F: PageFormat, P: EvictionPolicy>(
 )
     requires { waiting (view M.GuestMemory F.PageFormat P.EvictionPolicy machine.old) ≡ Some (fault_numbers fault.fault) }
 {
+    // A match of two lines: a closure for either would be no plainer.
     match settlement {
         Settlement::Deliver => machine.deliver(fault).unwrap(),
         Settlement::GiveUp => machine.give_up(fault).unwrap(),

@@ -35,6 +35,7 @@ pub enum Thing {
 }
 
 /// What stands at an index of a slot.
+// A link has a slot's number and no reference: the table is fixed, and numbers are what policies speak of too.
 #[derive(Clone, Copy, PartialEq)]
 pub enum Place {
     Empty,

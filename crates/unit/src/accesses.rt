@@ -28,6 +28,7 @@ fn with_token(error: AccessError<Fault>) -> AccessError<PendingFault>
     }
 }
 
+// The clauses `waits` are what each call leaves pending, by which its caller settles, and so a promise of each.
 impl<M: GuestMemory, F: PageFormat, P: EvictionPolicy> Machine<M, F, P> {
     /// Reads the word at an address.
     pub fn load(&mut self, address: Address) -> Result<Through, AccessError<PendingFault>>

@@ -15,6 +15,7 @@ use std::alloc::Global;
 
 impl<M: GuestMemory, F: PageFormat, P: EvictionPolicy> Machine<M, F, P> {
     /// Makes one call.
+    // A match: the calls are data that users write, and each arm is another public call.
     fn apply(&mut self, call: Call) -> Reply
         ensures { Promised M.GuestMemory F.PageFormat P.EvictionPolicy (call_of call) self.old (reply_of result) self.new }
     {
