@@ -1,7 +1,7 @@
 -- A call that is refused at its gate, or else does what is said, is a step of the unit; and so it promises what it should.
 use Rattle.std.proofs.Common.{◌≡◌, ℕ, ◌%◌, ◌≤◌, Bool, true, false, cond, ◌||◌, eqb, ltb, leb, [], is_some, Some, None, Option, sym, refl, ap, ◌∙◌, subst}
 use Rattle.std.proofs.lemmas.Bool.{ltb-false, or_parts}
-use Rattle.memory.specs.Memory.{Memory, has_words, stored}
+use Rattle.memory.specs.Memory.{Memory, has_words}
 use Rattle.memory.specs.declared.guest.GuestMemory
 use Rattle.paging.specs.Formats.{Format}
 use Rattle.paging.specs.declared.format.PageFormat
@@ -9,7 +9,7 @@ use Rattle.policies.specs.Orders.{Rule}
 use Rattle.policies.specs.declared.policy.EvictionPolicy
 use Rattle.walk.specs.Walk.{Failure}
 use Rattle.runs.specs.Runs.{Bounded, CallsLawful, Lawful, Run, opened}
-use Rattle.runs.specs.Terms.{Call, Reply, access, close_run, closed, deliver, done, flush_all, flush_page, give_up, no_exit, open_run, poke, set_mode, switch_root}
+use Rattle.runs.specs.Terms.{Call, Reply, access, close_run, closed, deliver, done, flush_all, flush_page, give_up, no_exit, open_run, set_mode, switch_root}
 use Rattle.runs.specs.Unit.{Ended, Running, State, access_ends, asked_in, call_limit, drop_page, flushed, is_pending, mode_set, opened_at, refuse, resync_all, settled_as, step, switch_ends, unless_full, unless_pending}
 use Rattle.engine.specs.Views.{ended}
 use Rattle.calls.specs.Gates.{between_runs, count_gate, guarded, in_run, or_else, ready_gate, settle_gate}
@@ -86,11 +86,6 @@ module _ (R : Rule) (F : Format) (m : Memory) where
   open_step None f n = refl
   open_step (Some r) f n = refl
 
-  poke_step : (o : Option Running) (f i w : ℕ)
-      → between_runs (at o) (cond (ltb 1023 i) (refuse (at o) 8) (cond (has_words (m f)) (ended (done no_exit) (record { memory = stored m f i w; run = None })) (refuse (at o) 3))) o ≡ step R F (at o) (poke f i w)
-  poke_step None f i w = refl
-  poke_step (Some r) f i w = refl
-
 -- PROMISES
 
 module _ {M F P : Type 0} (memory : GuestMemory.Ghosts M) (format : PageFormat.Ghosts F) (policy : EvictionPolicy.Ghosts P) where
@@ -136,9 +131,6 @@ module _ {M F P : Type 0} (memory : GuestMemory.Ghosts M) (format : PageFormat.G
 
   pub open_promised : (s : Machine M F P) (f n : ℕ) → Leaves (open_run f n) s (between_runs (view memory format policy s) (cond (ltb n 2 || ltb 8 n) (refuse (view memory format policy s) 4) (cond (has_words (before s f)) (ended (done no_exit) (opened_at policy.rule (before s) f n)) (refuse (view memory format policy s) 3))) (run_of s))
   open_promised s f n = promised (open_run f n) s (open_step policy.rule format.format (before s) (run_of s) f n)
-
-  pub poke_promised : (s : Machine M F P) (f i w : ℕ) → Leaves (poke f i w) s (between_runs (view memory format policy s) (cond (ltb 1023 i) (refuse (view memory format policy s) 8) (cond (has_words (before s f)) (ended (done no_exit) (record { memory = stored (before s) f i w; run = None })) (refuse (view memory format policy s) 3))) (run_of s))
-  poke_promised s f i w = promised (poke f i w) s (poke_step policy.rule format.format (before s) (run_of s) f i w)
 
   -- OPENINGS
 
