@@ -3,6 +3,7 @@ use engine::tallies::Tallies;
 use memory::guest::Word;
 use std::fmt;
 
+// Not `Tallies` over another width: a sum over runs has one figure more, and its own way to be printed.
 /// The figures of several runs together, and the sum of the words that were read, modulo 2^32.
 #[derive(Clone, Copy, Default)]
 pub struct Figures {

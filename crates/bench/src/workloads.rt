@@ -271,7 +271,7 @@ fn one_run<P: EvictionPolicy>(
 ) -> Result<(), Trouble> {
     let token = machine.open(0, slots)?;
     let tables = slots.saturating_sub(1).min(7) as u32;
-    // Each step calls a machine of any policy, which a table of functions could not hold without naming it.
+    // A match: the five do not take the same arguments, and a table of them would be no plainer.
     let sum = match workload {
         Workload::Hits => hits(machine, tables, rounds)?,
         Workload::Misses => misses(machine, tables, rounds)?,

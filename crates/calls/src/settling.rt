@@ -26,7 +26,7 @@ impl<M: GuestMemory, P: EvictionPolicy> PlainMachine<M, P> {
         Ok(())
     }
 
-    // Two calls with two contracts: what they share is the check above.
+    // Two calls with two contracts: what they share is the check of the fault, in `checks`.
     pub fn deliver(&mut self, fault: Fault) -> Result<(), Refusal>
         ensures { ended (quiet_reply result) (state_in M.GuestMemory P.EvictionPolicy self.new) ≡ in_run (state_in M.GuestMemory P.EvictionPolicy self.old) (λ h. settle_gate (fault_numbers fault) h.pending) (λ r. settled_as (state_in M.GuestMemory P.EvictionPolicy self.old) r (Some (record { address = fault.address; code = fault.code }))) (run_in P.EvictionPolicy self.old) }
     {

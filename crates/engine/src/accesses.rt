@@ -19,7 +19,8 @@ use walk::marking::{Marks, mark_entries};
 use walk::path::{Walked, directory_index};
 use walk::walking::walk;
 
-// That fewer calls than the limit were counted holds before a counted call and not always after it, so no type can hold it.
+// That fewer calls than the limit were counted is asked here, in `flushing`, `switching` and `tallies`. A counted call uses it up, so
+// that a processor cannot hold it; a value beside it could, but each function would then ask that the two have one tally.
 // Access and word stay apart: the walk, the marks and the slots take the access alone, and a struct of both would be
 // taken apart in each of these.
 impl<M: GuestMemory, P: EvictionPolicy> Engine<M, P> {
@@ -96,6 +97,7 @@ impl<M: GuestMemory, P: EvictionPolicy> Engine<M, P> {
         requires { hart.old.tally.figures.calls < 16777216 }
         ensures { ended (outcome_reply result) (state_of M.GuestMemory P.EvictionPolicy self.new hart.new) ≡ access_by P.EvictionPolicy.rule F.PageFormat.format (state_of M.GuestMemory P.EvictionPolicy self.old hart.old) (run_of P.EvictionPolicy self.old hart.old) (asked access) word None }
     {
+        // No `?` yet: a fault is made pending before it goes on, as it does by `?` in the call.
         match walk::<F, M>(&self.memory, hart.root, access) {
             Ok(walked) => Ok(self.come_through::<F>(hart, access, word, walked)),
             Err(fault) => {

@@ -15,6 +15,7 @@ pub struct FaultRecord {
 }
 
 /// What belongs to the processor.
+// No model of its own: its fields are public, and contracts read them one by one.
 #[derive(Clone, Copy, Drop)]
 pub struct Hart {
     pub root: Frame,
@@ -27,6 +28,7 @@ pub struct Hart {
 }
 
 /// Guest memory, and the shadow MMU over it. The processor stands beside it, in the calls of a run.
+// They are two, though many functions take both: between runs there is no processor, and memory and slots stay.
 #[derive(Drop)]
 pub struct Engine<M, P> {
     pub memory: M,

@@ -28,6 +28,7 @@ fn thing_named<F: PageFormat>(word: Word) -> Thing
     match F::read(Level::Directory, word) {
         Entry::Table(frame) => Thing::Table(frame),
         Entry::Page(frame) => Thing::Split(frame),
+        // No Option: the definition answers this, and a walk follows no such word.
         Entry::Absent | Entry::Malformed => Thing::Split(0),
     }
 }

@@ -198,11 +198,7 @@ fn all_fault<F: PageFormat>(rt: &impl Abort, memory: &mut Flat, cases: &[Case]) 
     for (directory, table, (kind, privilege), reason, (depth, frame, index), code) in cases {
         assert_eq!(rt; memory.write(0, 3, *directory), Ok(()));
         assert_eq!(rt; memory.write(1, 5, *table), Ok(()));
-        let cause = if matches!(*reason, Reason::Outside) {
-            1
-        } else {
-            0
-        };
+        let cause = u32::from(*reason == Reason::Outside);
         let fault = Fault {
             address: ADDRESS,
             reason: *reason,

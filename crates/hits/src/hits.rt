@@ -46,10 +46,7 @@ impl Copied {
     fn passes(self, kind: Kind) -> bool
         ensures { result ≡ passes (kind_number kind) self.writable }
     {
-        match kind {
-            Kind::Store => self.writable,
-            Kind::Load | Kind::Fetch => true,
-        }
+        kind != Kind::Store || self.writable
     }
 
     /// The frame aimed at, where the access needs no walk: the copied words allow it, their marks for it are all set, and a

@@ -9,7 +9,8 @@ use policies::policy::EvictionPolicy;
 use shadow::slots::SLOT_LIMIT;
 use slot::slots::{Shadow, SlotNumber, SyncState};
 
-// The clauses that the policy stays say what a call leaves alone, which is no fact about a value that a type could hold.
+// The clauses that the policy stays, here and in `looking`, `taking` and `tracing`, say what a call leaves alone. That is no fact
+// about a value, which a type could hold.
 impl<P: EvictionPolicy> Mmu<P> {
     /// Checks the table that a slot shadows against guest memory, if it is unsynchronised.
     #[tactic(auto, using(crate::proofs::Checked::checked, crate::proofs::Checked::unchecked))]

@@ -20,7 +20,7 @@ fn is_good_link(table: &SlotTable, word: Word, thing: Thing, place: Place) -> bo
 pub fn link_slot(place: Place) -> SlotNumber
     ensures { result ≡ link_slot place }
 {
-    // No Option: the definition answers 0, and a caller asks only where a link is known to be.
+    // No Option: the definition answers 0, and a caller asks only at a link, so that an Option would be unwrapped with 0 again.
     match place {
         Place::Link { slot, .. } => slot,
         Place::Empty | Place::Leaf { .. } | Place::Piece { .. } => 0,

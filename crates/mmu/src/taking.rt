@@ -9,7 +9,7 @@ use crate::unit::{Mmu, TakenSlot};
 use memory::guest::{Frame, GuestMemory};
 use policies::policy::EvictionPolicy;
 use shadow::slots::SlotTable;
-use slot::slots::{SlotNumber, Thing};
+use slot::slots::Thing;
 
 /// Guards the frame of a directory or a table.
 fn guard_for(table: &mut SlotTable, thing: Thing)

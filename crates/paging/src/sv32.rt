@@ -110,7 +110,8 @@ impl PageFormat for Sv32 {
         page_allows(page_word(words), kind, privilege)
     }
 
-    // The same line in each format: a shared function would be told reading and marks, and be no plainer.
+    // The same line in each format: a shared function would be told reading and marks, and be no plainer, and a method of the trait
+    // would ask one more of each format.
     fn mark(level: Level, kind: Kind, word: Word) -> Word {
         word | due(Self::read(level, word), kind)
     }

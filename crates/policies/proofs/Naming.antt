@@ -1,6 +1,5 @@
 -- The slot that is named: it is found from place to place, and where some slot of the order is permitted, it is permitted and stands in the order.
-use Rattle.std.proofs.Common.{◌≡◌, ℕ, ◌+◌, ◌<◌, Bool, true, false, cond, List, [], ◌∷◌, length, get_or, drop, Some, None, Option, sym, refl, ap, ◌∙◌, arith}
-use Rattle.std.proofs.lemmas.List.{at_drop_more}
+use Rattle.std.proofs.Common.{◌≡◌, ℕ, ◌<◌, Bool, true, false, cond, List, [], ◌∷◌, get_or, Some, None, Option, refl, ap, ◌∙◌, arith}
 use Rattle.std.specs.List.{find}
 use Rattle.std.specs.Option.{option_map, unwrap_or}
 use Rattle.std.proofs.lemmas.Bool.{both_ways, cond_both, eq-eqb, ne_eqb}
@@ -31,13 +30,6 @@ names_permitted permitted o s h k = (good permitted o s h k).0
 
 pub names_standing : NamesStanding
 names_standing permitted o s h k = (good permitted o s h k).1
-
--- what the slots from place i on name, by the slot there
-pub first_step : (permitted : List Bool) (o : List ℕ) (i s : ℕ) (b : Bool) → i < length o → s ≡ get_or o i 0 → get_or permitted s false ≡ b → first_permitted permitted (drop i o) ≡ cond b s (first_permitted permitted (drop (i + 1) o))
-first_step permitted o i s b h e t =
-    at_drop_more (first_permitted permitted) o i 0 h
-    ∙ ap (λ x. cond (get_or permitted x false) x (first_permitted permitted (drop (i + 1) o))) (sym e)
-    ∙ ap (λ (v : Bool). cond v s (first_permitted permitted (drop (i + 1) o))) t
 
 -- where a search for a permitted slot found r
 pub named_found : (permitted : List Bool) (o : List ℕ) (r : Option ℕ) → option_map (λ x. x) r ≡ find (λ s. get_or permitted s false) o → unwrap_or r 0 ≡ first_permitted permitted o

@@ -3,6 +3,7 @@ ghost use Rattle.std.specs.Prelude.{◌≤◌};
 
 use crate::policy::SlotNumber;
 
+// No model of its own, here and in `Old`: one of a `Copy` type must give the fields back, and two hands may have one order.
 /// The slots below `count`, in order from the hand upward and round the end. A hand at `count` goes on from slot 0.
 #[derive(Clone, Copy, Drop)]
 pub struct Hand {

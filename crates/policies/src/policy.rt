@@ -23,6 +23,7 @@ pub trait EvictionPolicy {
         ensures { order self.new ≡ rule.told (order self.old) slot };
 
     /// Names the slot that gives way: the first of the order that is permitted, or 0 where none is.
+    // No Option: the unit asks only where one is permitted, and the definition answers 0 elsewhere.
     fn name(&mut self, permitted: &[bool; SLOT_LIMIT]) -> SlotNumber
         ensures answer { result ≡ first_permitted permitted.now (order self.old) }
         ensures after { order self.new ≡ rule.named (order self.old) result };

@@ -67,7 +67,7 @@ fn oldest(stamps: &[u32; 8], permitted: &[bool; 8], count: usize) -> SlotNumber 
 fn old_agrees(rt: &impl Abort, count: usize, random: &mut Random) {
     let mut policy = Old::new();
     policy.start(count);
-    let mut stamps = [0, 1, 2, 3, 4, 5, 6, 7];
+    let mut stamps = array::from_fn(|slot| slot as u32);
     for time in 8..508 {
         let slot = random.slot();
         policy.tell(slot);

@@ -126,6 +126,7 @@ impl<M: GuestMemory + Drop, F: PageFormat + Drop, P: EvictionPolicy + Drop> Repl
     }
 
     /// Does what a line says.
+    // A match, as above: lines are data too.
     pub fn follow(&mut self, rt: &HostRuntime, line: Line) -> anyhow::Result<()> {
         match (line, self.opening) {
             (Line::Call(call), Some(_)) => self.calls.push(call)?,

@@ -27,6 +27,8 @@ impl fmt::Display for Marked {
     }
 }
 
+// Functions and no wrappers: each is called by one impl. The programs print accesses, faults and tallies in forms of their own, so
+// these types have none.
 fn show_through<W: fmt::Write>(through: Through, f: &mut fmt::Formatter<W>) -> fmt::Result {
     let Through {
         value,
@@ -38,7 +40,6 @@ fn show_through<W: fmt::Write>(through: Through, f: &mut fmt::Formatter<W>) -> f
     write!(f, "{}{}", Marked(marks.directory), Marked(marks.table))
 }
 
-// The programs print faults and tallies in forms of their own, so `Fault` and `Tallies` have none.
 fn show_fault<W: fmt::Write>(fault: Fault, f: &mut fmt::Formatter<W>) -> fmt::Result {
     let Fault {
         address,

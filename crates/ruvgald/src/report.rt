@@ -19,6 +19,8 @@ pub struct Reached {
     pub marks: Marks,
 }
 
+// Functions and no wrappers, here and for faults: each is called by one impl. The programs print marks and faults in forms of their
+// own, so `Mark` and `Fault` have none.
 fn show_mark<W: fmt::Write>(
     mark: Option<Mark>,
     level: Level,
@@ -41,7 +43,6 @@ impl fmt::Display for Reached {
     }
 }
 
-// The programs print faults in forms of their own, so `Fault` has none.
 fn show_fault<W: fmt::Write>(fault: Fault, f: &mut fmt::Formatter<W>) -> fmt::Result {
     let Fault {
         address,

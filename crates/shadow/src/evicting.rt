@@ -29,6 +29,6 @@ impl SlotTable {
     pub fn fill(&mut self, i: SlotNumber, thing: Thing)
         ensures { self.new ≡ fill i thing self.old }
     {
-        self.reset(i, thing.shadow());
+        self.reset(i, thing.into());
     }
 }

@@ -1,6 +1,6 @@
 //! Which slots shadow what.
 ghost use Rattle.std.specs.Prelude.{◌≡◌};
-ghost use Rattle.shadow.specs.Slots.{find_slot, first_empty, first_from, is_directory, is_guarded, is_protected, is_unsynchronised, may_take, permitted};
+ghost use Rattle.shadow.specs.Slots.{find_slot, first_empty, is_directory, is_guarded, is_protected, is_unsynchronised, may_take, permitted};
 
 use crate::slots::{SLOT_LIMIT, SlotTable};
 use memory::guest::Frame;

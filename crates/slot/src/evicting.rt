@@ -38,12 +38,12 @@ impl Slot {
     }
 }
 
-impl Thing {
-    /// How a slot shadows the thing at first: a table is protected.
-    pub fn shadow(self) -> Shadow
-        ensures { result ≡ shadow_of self }
-    {
-        match self {
+/// How a slot shadows a thing at first: a table is protected.
+impl From<Thing> for Shadow {
+    ghost from_gives = { λ t s. s ≡ shadow_of t };
+
+    fn from(thing: Thing) -> Shadow {
+        match thing {
             Thing::Directory(frame) => Shadow::Directory(frame),
             Thing::Table(frame) => Shadow::Table(frame, SyncState::Protected),
             Thing::Split(frame) => Shadow::Split(frame),

@@ -11,7 +11,7 @@ impl Shadow {
         ensures { result ≡ shadows self thing }
     {
         // A table's state does not count.
-        self.with_sync(SyncState::Protected) == thing.shadow()
+        self.with_sync(SyncState::Protected) == Shadow::from(thing)
     }
 
     pub fn is_nothing(self) -> bool

@@ -1,9 +1,9 @@
 //! A slot and what it holds. It knows neither memory nor page format: it keeps what it is told.
-use memory::guest::{Frame, Word};
+use memory::guest::{FRAME_WORDS, Frame, Word};
 pub use policies::policy::SlotNumber;
 
 /// The places of a slot, one for each word of a frame.
-pub const PLACES: usize = 1024;
+pub const PLACES: usize = FRAME_WORDS;
 
 /// How a table's slot stands to the table's frame.
 #[derive(Clone, Copy, PartialEq)]

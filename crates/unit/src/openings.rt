@@ -1,7 +1,6 @@
 //! Machines built, runs opened and closed, and what is done between them.
 ghost use Rattle.std.specs.Prelude.{◌≡◌, None};
 ghost use Rattle.calls.specs.Replies.{quiet_reply};
-ghost use Rattle.engine.specs.Numbers.{tallied};
 ghost use Rattle.runs.specs.Terms.{close_run, open_run, poke};
 ghost use Rattle.unit.specs.Promises.{Begun, Promised, view};
 ghost use Rattle.unit.specs.Replies.{TokenBack, TokenOf, close_reply, open_reply};

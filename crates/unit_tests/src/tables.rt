@@ -1,6 +1,5 @@
 //! Tables that name themselves, and frames that are directory and table at once.
 use crate::scene::{Seen, check_run, furnish, marks, shown};
-use engine::tallies::Tallies;
 use memory::flat::Flat;
 use memory::guest::GuestMemory;
 use mmu::exits::Exit;

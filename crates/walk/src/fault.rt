@@ -54,7 +54,7 @@ pub struct Stop {
 
 /// A fault: the address, why, the depth, frame and index of the word that decided it, the format's code, and the
 /// memory's cause, which is 0 unless a frame had no words.
-// The cause is no Option: a memory may give the cause 0, and such a fault is the same as one without a cause.
+// The cause is a number, 0 for none: a fault to be settled is compared by its numbers, where a cause 0 and none are one.
 #[derive(Clone, Copy, PartialEq, Eq, Debug)]
 pub struct Fault {
     pub address: Address,

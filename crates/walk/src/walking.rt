@@ -65,6 +65,7 @@ fn entry_at<M: GuestMemory>(
 }
 
 /// From the directory's entry through a table.
+// Its end and that of `descend` stay two: they deny at entries of two levels, and have one word and two.
 fn through_table<F: PageFormat, M: GuestMemory>(
     memory: &M,
     access: Access,
