@@ -111,6 +111,6 @@ fn refused_memory_back(rt: HostRuntime) -> Result<(), Fail> {
     let Err(refused) = Partition::new(whole, 1, 4096) else {
         return Err(Fail::new("accepted"));
     };
-    assert_eq!(rt; refused.memory.read(1, 1), Ok(4));
+    assert_eq!(rt; refused.back.read(1, 1), Ok(4));
     Ok(())
 }

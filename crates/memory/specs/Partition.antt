@@ -15,4 +15,4 @@ bad_range first count = count == 0 || nat_lt frame_limit (first + count)
 -- What building a partition of memory m gives: the partition, or refusal 9 and m again.
 abbrev pub Built : {M : Type 0} → M → ℕ → ℕ → Result (Partition M) (Refused M) → Type 0
 Built m first count (Ok p) = (bad_range first count ≡ false) × (p.under ≡ m) × (p.first ≡ first) × (p.count ≡ count)
-Built m first count (Err e) = (bad_range first count ≡ true) × (refusal_number e.refusal ≡ 9) × (e.memory ≡ m)
+Built m first count (Err e) = (bad_range first count ≡ true) × (refusal_number e.refusal ≡ 9) × (e.back ≡ m)

@@ -61,9 +61,9 @@ impl fmt::Display for Refusal {
 
 impl Error for Refusal {}
 
-/// A refusal, with the memory that was handed in.
+/// A refusal, with what was handed in.
 #[derive(Drop)]
-pub struct Refused<M> {
+pub struct Refused<T> {
     pub refusal: Refusal,
-    pub memory: M,
+    pub back: T,
 }

@@ -50,7 +50,7 @@ impl<M: GuestMemory + Drop, F: PageFormat + Drop, P: EvictionPolicy + Drop> Repl
         match self.machine.close(token) {
             Ok(closed) => Some(closed.report().into()),
             Err(still) => {
-                self.token = Some(still.token);
+                self.token = Some(still.back);
                 Some(still.refusal.into())
             }
         }

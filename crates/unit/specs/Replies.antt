@@ -2,6 +2,7 @@
 use Rattle.std.specs.Prelude.{◌≡◌, ℕ, Some, None, Ok, Err, Option, Result}
 use Rattle.memory.specs.Numbers.{refusal_number}
 use Rattle.memory.specs.declared.refusal.Refusal.{Refusal}
+use Rattle.memory.specs.declared.refusal.Refused.{Refused}
 use Rattle.walk.specs.Numbers.{fault_numbers}
 use Rattle.runs.specs.Terms.{Reply, closed, done, no_exit, refused, through}
 use Rattle.runs.specs.Terms as terms
@@ -12,8 +13,6 @@ use Rattle.engine.specs.declared.engine.FaultRecord.{FaultRecord}
 use Rattle.engine.specs.declared.engine.Through.{Through}
 use Rattle.calls.specs.declared.plain.AccessError.{AccessError}
 use Rattle.calls.specs.declared.plain.AccessError.TheVariants as error
-use Rattle.unit.specs.declared.answers.StillRunning.{StillRunning}
-use Rattle.unit.specs.declared.answers.Unsettled.{Unsettled}
 use Rattle.unit.specs.declared.tokens.ClosedToken.{ClosedToken}
 use Rattle.unit.specs.declared.tokens.PendingFault.{PendingFault}
 use Rattle.unit.specs.declared.tokens.RunningToken.{RunningToken}
@@ -27,11 +26,11 @@ abbrev pub open_reply : Result RunningToken Refusal → Reply
 open_reply (Ok t) = done no_exit
 open_reply (Err e) = refused (refusal_number e)
 
-abbrev pub settle_reply : Result Unit Unsettled → Reply
+abbrev pub settle_reply : Result Unit (Refused PendingFault) → Reply
 settle_reply (Ok u) = done no_exit
 settle_reply (Err e) = refused (refusal_number e.refusal)
 
-abbrev pub close_reply : Result ClosedToken StillRunning → Reply
+abbrev pub close_reply : Result ClosedToken (Refused RunningToken) → Reply
 close_reply (Ok c) = closed (tallied c.tallies)
 close_reply (Err e) = refused (refusal_number e.refusal)
 
@@ -41,14 +40,14 @@ TokenOf root (Ok t) = t.root ≡ root
 TokenOf root (Err e) = Unit {0}
 
 -- a refused settlement hands the fault back
-abbrev pub FaultBack : PendingFault → Result Unit Unsettled → Type 0
+abbrev pub FaultBack : PendingFault → Result Unit (Refused PendingFault) → Type 0
 FaultBack f (Ok u) = Unit {0}
-FaultBack f (Err e) = e.fault ≡ f
+FaultBack f (Err e) = e.back ≡ f
 
 -- a refused close hands the token back
-abbrev pub TokenBack : RunningToken → Result ClosedToken StillRunning → Type 0
+abbrev pub TokenBack : RunningToken → Result ClosedToken (Refused RunningToken) → Type 0
 TokenBack t (Ok c) = Unit {0}
-TokenBack t (Err e) = e.token ≡ t
+TokenBack t (Err e) = e.back ≡ t
 
 -- what is answered to the question for the fault record: refusal 2 while no run is open
 abbrev pub record_asked : Option Running → Result (Option RecordedFault) ℕ

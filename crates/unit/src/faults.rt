@@ -8,12 +8,11 @@ ghost use Rattle.unit.specs.Promises.{Promised, view};
 ghost use Rattle.unit.specs.Replies.{FaultBack, record_asked, record_told, settle_reply};
 ghost use Rattle.walk.specs.Numbers.{fault_numbers};
 
-use crate::answers::Unsettled;
 use crate::machine::Machine;
 use crate::tokens::PendingFault;
 use engine::engine::FaultRecord;
 use memory::guest::GuestMemory;
-use memory::refusal::Refusal;
+use memory::refusal::{Refusal, Refused};
 use paging::format::PageFormat;
 use policies::policy::EvictionPolicy;
 use walk::fault::Fault;
@@ -28,7 +27,7 @@ impl PendingFault {
 }
 
 /// Takes a fault by what its settlement was answered, or hands it back.
-fn take(fault: PendingFault, res: Result<(), Refusal>) -> Result<(), Unsettled>
+fn take(fault: PendingFault, res: Result<(), Refusal>) -> Result<(), Refused<PendingFault>>
     ensures reply { settle_reply result ≡ quiet_reply res }
     ensures settles { is_ok result ≡ is_ok res }
     ensures back { FaultBack fault result }
@@ -38,13 +37,16 @@ fn take(fault: PendingFault, res: Result<(), Refusal>) -> Result<(), Unsettled>
             let PendingFault { fault: _ } = fault;
             Ok(())
         }
-        Err(refusal) => Err(Unsettled { refusal, fault }),
+        Err(refusal) => Err(Refused {
+            refusal,
+            back: fault,
+        }),
     }
 }
 
 impl<M: GuestMemory, F: PageFormat, P: EvictionPolicy> Machine<M, F, P> {
     /// Delivers a fault: the guest is told of it.
-    pub fn deliver(&mut self, fault: PendingFault) -> Result<(), Unsettled>
+    pub fn deliver(&mut self, fault: PendingFault) -> Result<(), Refused<PendingFault>>
         ensures promise { Promised M.GuestMemory F.PageFormat P.EvictionPolicy (deliver (fault_numbers fault.fault)) self.old (settle_reply result) self.new }
         ensures settles { waiting (view M.GuestMemory F.PageFormat P.EvictionPolicy self.old) ≡ Some (fault_numbers fault.fault) → is_ok result ≡ true }
         ensures back { FaultBack fault result }
@@ -54,7 +56,7 @@ impl<M: GuestMemory, F: PageFormat, P: EvictionPolicy> Machine<M, F, P> {
     }
 
     /// Gives a fault up: the guest is told nothing.
-    pub fn give_up(&mut self, fault: PendingFault) -> Result<(), Unsettled>
+    pub fn give_up(&mut self, fault: PendingFault) -> Result<(), Refused<PendingFault>>
         ensures promise { Promised M.GuestMemory F.PageFormat P.EvictionPolicy (give_up (fault_numbers fault.fault)) self.old (settle_reply result) self.new }
         ensures settles { waiting (view M.GuestMemory F.PageFormat P.EvictionPolicy self.old) ≡ Some (fault_numbers fault.fault) → is_ok result ≡ true }
         ensures back { FaultBack fault result }

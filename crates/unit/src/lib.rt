@@ -2,7 +2,6 @@
 #![tactic(auto)]
 
 pub mod accesses;
-pub mod answers;
 pub mod faults;
 pub mod flushes;
 pub mod machine;

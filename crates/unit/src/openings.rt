@@ -5,14 +5,13 @@ ghost use Rattle.runs.specs.Terms.{close_run, open_run, poke};
 ghost use Rattle.unit.specs.Promises.{Begun, Promised, view};
 ghost use Rattle.unit.specs.Replies.{TokenBack, TokenOf, close_reply, open_reply};
 
-use crate::answers::StillRunning;
 use crate::machine::Machine;
 use crate::tokens::{ClosedToken, RunningToken};
 use calls::plain::PlainMachine;
 use engine::engine::Engine;
 use engine::tallies::Tallies;
 use memory::guest::{Frame, GuestMemory, Word};
-use memory::refusal::Refusal;
+use memory::refusal::{Refusal, Refused};
 use mmu::unit::Mmu;
 use paging::format::PageFormat;
 use policies::policy::EvictionPolicy;
@@ -74,14 +73,16 @@ impl<M: GuestMemory, F: PageFormat, P: EvictionPolicy> Machine<M, F, P> {
     }
 
     /// Closes the run. Any running token will do.
-    pub fn close(&mut self, token: RunningToken) -> Result<ClosedToken, StillRunning>
+    pub fn close(&mut self, token: RunningToken) -> Result<ClosedToken, Refused<RunningToken>>
         ensures promise { Promised M.GuestMemory F.PageFormat P.EvictionPolicy close_run self.old (close_reply result) self.new }
         ensures back { TokenBack token result }
     {
-        match self.step_close() {
-            Ok(tallies) => Ok(ClosedToken { tallies }),
-            Err(refusal) => Err(StillRunning { refusal, token }),
-        }
+        self.step_close()
+            .map(|tallies| ClosedToken { tallies })
+            .map_err(|refusal| Refused {
+                refusal,
+                back: token,
+            })
     }
 
     /// Writes one word of guest memory.

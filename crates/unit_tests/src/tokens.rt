@@ -11,7 +11,7 @@ use engine::engine::{FaultRecord, Through};
 use engine::tallies::Tallies;
 use memory::flat::Flat;
 use memory::guest::GuestMemory;
-use memory::refusal::Refusal;
+use memory::refusal::{Refusal, Refused};
 use mmu::exits::Exit;
 use paging::access::{Address, Privilege};
 use paging::format::PageFormat;
@@ -21,7 +21,6 @@ use policies::policy::EvictionPolicy;
 use settled::{Settlement, settle};
 use std::alloc::Global;
 use std::test::Fail;
-use unit::answers::Unsettled;
 use unit::machine::Machine;
 use unit::requests::Reply;
 use unit::tokens::{PendingFault, RunningToken};
@@ -59,16 +58,16 @@ fn offer<M: GuestMemory, F: PageFormat, P: EvictionPolicy>(
         Err(AccessError::Faulted(fault)) => match wrong.deliver(fault) {
             Ok(()) => None,
             Err(once) => {
-                let Unsettled {
+                let Refused {
                     refusal: first,
-                    fault,
+                    back: fault,
                 } = once;
                 match wrong.give_up(fault) {
                     Ok(()) => None,
                     Err(twice) => {
-                        let Unsettled {
+                        let Refused {
                             refusal: second,
-                            fault,
+                            back: fault,
                         } = twice;
                         settle(right, fault, Settlement::Deliver);
                         Some((first, second))
@@ -97,8 +96,8 @@ fn refused_close_hands_back(rt: HostRuntime) -> Result<(), Fail> {
         return Err(Fail::new("closed without a run"));
     };
     assert_eq!(rt; u8::from(still.refusal), 2);
-    assert_eq!(rt; still.token.root(), 1);
-    assert_eq!(rt; report(&mut right, still.token), Some(ZERO));
+    assert_eq!(rt; still.back.root(), 1);
+    assert_eq!(rt; report(&mut right, still.back), Some(ZERO));
     Ok(())
 }
 

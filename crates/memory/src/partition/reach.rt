@@ -17,7 +17,7 @@ impl<M> Partition<M> {
         if count == 0 || first.checked_add(count).is_none_or(|end| end > FRAME_LIMIT) {
             return Err(Refused {
                 refusal: Refusal::PartitionRange,
-                memory,
+                back: memory,
             });
         }
         Ok(Partition {
