@@ -3,6 +3,7 @@ use engine::engine::{Engine, Hart};
 use memory::refusal::Refusal;
 
 /// A machine whose calls take and give plain records. The crate above adds the tokens.
+// No model of its own, as for a machine: it would ask for the bounds of memory and policy.
 #[derive(Drop)]
 pub struct PlainMachine<M, P> {
     pub engine: Engine<M, P>,

@@ -28,7 +28,8 @@ pub struct Hart {
 }
 
 /// Guest memory, and the shadow MMU over it. The processor stands beside it, in the calls of a run.
-// They are two, though many functions take both: between runs there is no processor, and memory and slots stay.
+// They are two, though many functions take both: between runs there is no processor, and memory and slots stay. No model of its own,
+// as for a machine: it would ask for the bounds of memory and policy.
 #[derive(Drop)]
 pub struct Engine<M, P> {
     pub memory: M,

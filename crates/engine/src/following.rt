@@ -57,6 +57,7 @@ fn write_place<M: GuestMemory>(
 }
 
 /// Sees to the slots that copied the frame of a store. Any other access is hidden.
+// That the policy stays is what this leaves alone, and no fact about a value.
 fn trace<P: EvictionPolicy>(
     mmu: &mut Mmu<P>,
     access: Access,

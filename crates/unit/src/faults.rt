@@ -27,6 +27,7 @@ impl PendingFault {
 }
 
 /// Takes a fault by what its settlement was answered, or hands it back.
+// A match: a fault is let go in one arm alone, which a closure that holds it could not. `FaultBack` is what both calls promise.
 fn take(fault: PendingFault, res: Result<(), Refusal>) -> Result<(), Refused<PendingFault>>
     ensures reply { settle_reply result ≡ quiet_reply res }
     ensures settles { is_ok result ≡ is_ok res }

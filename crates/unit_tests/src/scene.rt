@@ -16,6 +16,7 @@ use walk::marking::Marks;
 // A type of its own, since most tests leave out the marks that a `Reply` has.
 #[derive(Clone, Copy, PartialEq, Eq, Debug)]
 pub enum Seen {
+    // A number and no `Refusal`: the tests say the numbers that users know.
     Refused(u8),
     /// The word, its frame and the exit.
     Through(Word, Frame, Exit),
