@@ -7,7 +7,7 @@ use crate::words::frame_words;
 use memory::guest::GuestMemory;
 use policies::policy::EvictionPolicy;
 use shadow::slots::SLOT_LIMIT;
-use slot::slots::{Shadow, SlotNumber, SyncState};
+use slot::slots::{Shadow, SlotNumber};
 
 // The clauses that the policy stays, here and in `looking`, `taking` and `tracing`, say what a call leaves alone. That is no fact
 // about a value, which a type could hold.
@@ -18,7 +18,9 @@ impl<P: EvictionPolicy> Mmu<P> {
         ensures table { self.new.table ≡ resync (M.GuestMemory.frames memory.now) slot self.old.table }
         ensures policy { self.new.policy ≡ self.old.policy }
     {
-        if let Shadow::Table(frame, SyncState::Unsynchronised) = self.table.shadow(slot) {
+        if self.table.is_unsynchronised(slot)
+            && let Shadow::Table(frame, _) = self.table.shadow(slot)
+        {
             self.table.check_table(slot, &frame_words(memory, frame));
         }
     }

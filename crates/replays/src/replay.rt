@@ -114,14 +114,24 @@ impl<M: GuestMemory + Drop, F: PageFormat + Drop, P: EvictionPolicy + Drop> Repl
         Ok(())
     }
 
+    /// The words of one frame, as `sum` adds them up. Its own function: whether a frame has words is then looked up once.
+    fn frame_sum(&self, frame: Frame) -> u32 {
+        let memory = self.machine.memory();
+        let before = frame.wrapping_mul(FRAME_WORDS as u32);
+        (0..FRAME_WORDS as u32)
+            .map(|index| {
+                let position = before.wrapping_add(index).wrapping_add(1);
+                memory
+                    .read(frame, index)
+                    .map_or(0, |word| word.wrapping_mul(position))
+            })
+            .fold(0, u32::wrapping_add)
+    }
+
     /// Each word times its position, counted from 1, added up modulo 2 to the 32. A frame without words counts nothing.
     fn sum(&self) -> u32 {
-        let words = FRAME_WORDS as u32;
-        (0..self.frames.saturating_mul(words))
-            .map(|at| {
-                let word = self.machine.memory().read(at / words, at % words);
-                word.unwrap_or(0).wrapping_mul(at.wrapping_add(1))
-            })
+        (0..self.frames)
+            .map(|frame| self.frame_sum(frame))
             .fold(0, u32::wrapping_add)
     }
 

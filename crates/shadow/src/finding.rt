@@ -1,26 +1,40 @@
 //! Which slots shadow what.
-ghost use Rattle.std.specs.Prelude.{◌≡◌};
+ghost use Rattle.std.specs.Prelude.{◌≡◌, position, take};
+ghost use Rattle.slot.specs.Slot.{shadows};
 ghost use Rattle.shadow.specs.Slots.{find_slot, first_empty, is_directory, is_guarded, is_protected, is_unsynchronised, may_take, permitted};
 
 use crate::slots::{SLOT_LIMIT, SlotTable};
 use memory::guest::Frame;
-use slot::slots::{Shadow, SlotNumber, SyncState, Thing};
+use slot::slots::{Shadow, Slot, SlotNumber, SyncState, Thing};
+
+/// The first of the slots that shadows the thing.
+fn first_of(slots: &[Slot], thing: Thing) -> Option<SlotNumber>
+    ensures { result ≡ position (λ s. shadows s.shadow thing) slots.now }
+{
+    slots.iter().position(|slot| slot.shadow.is(thing))
+}
 
 impl SlotTable {
     /// The first slot that shadows the thing.
     pub fn find(&self, thing: Thing) -> Option<SlotNumber>
         ensures { result ≡ find_slot thing self.now }
     {
-        self.slots.iter().position(|slot| slot.shadow.is(thing))
+        first_of(&self.slots, thing)
+    }
+
+    /// The slots in use.
+    fn in_use(&self) -> &[Slot]
+        ensures { result.now ≡ take self.now.count self.now.slots }
+    {
+        &self.slots[..self.count.min(SLOT_LIMIT)]
     }
 
     /// The first slot in use that is empty.
     pub fn first_empty(&self) -> Option<SlotNumber>
         ensures { result ≡ first_empty self.now }
     {
-        self.slots
+        self.in_use()
             .iter()
-            .take(self.count)
             .position(|slot| slot.shadow.is_nothing())
     }
 

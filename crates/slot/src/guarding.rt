@@ -28,6 +28,8 @@ fn in_split(frame: Frame, first: Frame) -> bool
 
 impl Slot {
     /// Takes the flag off every leaf and piece that aims at the frame.
+    // Not inlined: written out for each slot of a table, the loop over the places is slower.
+    #[inline(never)]
     pub fn guard(&mut self, frame: Frame)
         ensures { self.new ≡ guard_slot frame self.old }
     {
